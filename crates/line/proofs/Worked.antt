@@ -1,0 +1,49 @@
+-- The worked examples, computed.
+-- Assumes nothing.
+use mathlib.Core.Path.{refl}
+use Rattle.line.specs.Symbol.{symbolOf, placeOf, nibbleOf, isNibble, spelt, octetsOf}
+use Rattle.line.specs.Kind.{setOf, carries}
+use Rattle.line.specs.Crc.{poly, crcBit, crcBits, crcOctet, crcFrom, crcOf, fourOctets, withCrc}
+use Rattle.line.specs.Frame.{drawn, sealed, symbolsOf}
+use Rattle.line.specs.Refusal.{firstNo}
+use Rattle.line.specs.Read.{
+  common,
+  kindFrom,
+  furthest,
+  setOr,
+  setAt,
+  nibbleRun,
+  mayEnd,
+  endOr,
+  bodyAt,
+  withSet,
+  afterSet,
+  shapeAt,
+  number,
+  crcRight,
+  checked,
+  firstOf,
+  first,
+}
+use Rattle.line.specs.Reader.{saysOf}
+use Rattle.line.specs.Examples.{Examples}
+
+pub examples : Examples
+unfolding symbolOf placeOf nibbleOf isNibble spelt octetsOf setOf carries poly crcBit crcBits crcOctet crcFrom crcOf fourOctets withCrc drawn sealed symbolsOf firstNo common kindFrom furthest setOr setAt nibbleRun mayEnd endOr bodyAt withSet afterSet shapeAt number crcRight checked firstOf first saysOf
+examples =
+    record {
+      nothing = refl;
+      no-set = refl;
+      eop-after-half = refl;
+      eop-too-soon = refl;
+      octet-35 = refl;
+      cut-off = refl;
+      no-symbol = refl;
+      wrong-crc = refl;
+      room-72 = refl;
+      room-33 = λ line after at r h. h .says;
+      check-value = refl;
+      tank-long = refl;
+      tank-set = refl;
+      tank-end = refl;
+    }

@@ -1,0 +1,57 @@
+-- The nibbles are counted; what stands behind them decides.
+use borrow.Author.Needs.{needs}
+use mathlib.Core.List.{[]}
+use native.Mathlib.Omega.{arith}
+use Rattle.line.proofs.Reading.{body-within, body-short, body-misfit, ending, pairs, body-whole}
+use Rattle.line.proofs.read.read_message.Statement.{statement}
+use Rattle.line.proofs.read.read_message.Tie as tie
+
+nibbles-requires : tie.Need-nibbles-requires
+nibbles-requires c κs = search needs
+
+add-t8 : tie.Need-add-t8
+add-t8 c = search needs
+
+returns : tie.Need-returns
+returns c = body-short _ _ _ _ _ (c .before .nibbles .ensures) (c .if1 .taken)
+
+shared-slice-read-may-end : tie.Need-shared-slice-read-may-end
+shared-slice-read-may-end c = omega (arith, body-within 0 0 (c .before .before .before .before .before .args .body .now) [] _ (c .before .before .nibbles .ensures), c .before .if1 .left)
+
+may-end-requires : tie.Need-may-end-requires
+may-end-requires c κs = search needs
+
+read-octets-requires : tie.Need-read-octets-requires
+read-octets-requires c κs =
+    let B = c .before .before .before .before .before .before .before .before .args .body .now in
+    let p = pairs 0 0 B [] _ (c .before .before .before .before .before .nibbles .ensures) (c .before .before .before .before .if1 .left) _ (c .before .before .may-end .ensures) (c .before .if2 .taken) in
+    let z = ending 0 0 B [] _ (c .before .before .before .before .before .nibbles .ensures) (c .before .before .before .before .if1 .left) _ (c .before .before .may-end .ensures) (c .before .if2 .taken) in
+    let w = body-within 0 0 B [] _ (c .before .before .before .before .before .nibbles .ensures) in
+    (c .before .before .before .before .before .before .before .before .pre .0, omega (arith, (c .before .before .before .before .before .nibbles .ensures)), omega (arith, z .many), c .before .before .before .before .before .before .before .before .pre .1, omega (arith, c .before .before .before .before .before .before .before .before .pre .2, c .before .before .before .before .if1 .left))
+
+same-length : tie.Need-same-length
+same-length c = search needs
+
+returns-2 : tie.Need-returns-2
+returns-2 c = body-whole _ _ _ _ _ (c .before .before .before .before .before .before .before .before .nibbles .ensures) (c .before .before .before .before .before .before .before .if1 .left) _ (c .before .before .before .before .before .may-end .ensures) (c .before .before .before .before .if2 .taken) _ _ (c .before .before .read-octets .ensures)
+
+add-t6 : tie.Need-add-t6
+add-t6 c = omega (arith, body-within 0 0 (c .before .before .before .before .before .before .before .args .body .now) [] _ (c .before .before .before .before .nibbles .ensures))
+
+returns-3 : tie.Need-returns-3
+returns-3 c = body-misfit _ _ _ _ _ (c .before .before .before .before .nibbles .ensures) (c .before .before .before .if1 .left) _ (c .before .may-end .ensures) (c .if2 .left)
+
+pub read-message-spec : {M : Type 1} → statement M
+read-message-spec =
+    tie.close
+    (tie.spec
+    nibbles-requires
+    add-t8
+    returns
+    shared-slice-read-may-end
+    may-end-requires
+    read-octets-requires
+    same-length
+    returns-2
+    add-t6
+    returns-3)

@@ -1,0 +1,51 @@
+// CRC-32, bit by bit (01, 'Line code (PD)').
+ghost use mathlib.Core.Path.{_≡_};
+ghost use Rattle.line.specs.Crc.{crcBit, crcOctet, crcOf, fourOctets};
+
+const POLYNOMIAL: u32 = 0xEDB8_8320;
+
+fn bit(c: u32) -> u32
+    ensures { λ r. ⌜ r ≡ crcBit c ⌝ }
+{
+    if c & 1 == 0 {
+        c >> 1
+    } else {
+        (c >> 1) ^ POLYNOMIAL
+    }
+}
+
+fn octet(c: u32, b: u8) -> u32
+    ensures { λ r. ⌜ r ≡ crcOctet c b ⌝ }
+{
+    let mut x = c ^ (b as u32);
+    for _ in 0..8u32 {
+        x = bit(x);
+    }
+    x
+}
+
+// The CRC of some octets. Exported, so that C and Rust programs can call it too.
+#[no_mangle]
+pub extern "C" fn crc(octets: &[u8]) -> u32
+    ensures { λ r. ⌜ r ≡ crcOf (now (octets .entry)) ⌝ }
+{
+    let mut c = 0xFFFF_FFFF;
+    let mut i = 0;
+    while i < octets.len() {
+        c = octet(c, octets[i]);
+        i += 1;
+    }
+    !c
+}
+
+// The octets of a CRC as they are sent, the least significant first.
+pub(crate) fn four_octets(n: u32) -> [u8; 4]
+    ensures { λ r. ⌜ r ≡ fourOctets n ⌝ }
+{
+    [
+        (n & 0xFF) as u8,
+        ((n >> 8) & 0xFF) as u8,
+        ((n >> 16) & 0xFF) as u8,
+        ((n >> 24) & 0xFF) as u8,
+    ]
+}
