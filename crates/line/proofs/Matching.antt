@@ -1,17 +1,16 @@
 -- How the code looks for a set: symbol after symbol, and kind after kind.
 -- Assumes nothing.
 use mathlib.Core.Path.{_≡_, refl, sym, ap, _∙_}
-use mathlib.Core.Bool.{Bool, true, false}
 use mathlib.Core.List.{List, [], _∷_}
 use mathlib.Core.Option.{Option, none, some}
-use Prim.Native.Nat.{ℕ, zero, suc, _+_, _<_, _≤_, max}
+use Prim.Native.Nat.{ℕ, suc, _+_, _<_, _≤_, max}
 use native.Mathlib.Numerals.{add-one}
 use native.Mathlib.Omega.{arith}
 use borrow.Author.Tests.{eq-eqb, ne-eqb}
 use lib.ListN.{length, drop, getD, drop-of-length-le}
 use lib.Seq.{drop-cons}
 use Rattle.line.specs.Kind.{orderedSets, kinds, setOf}
-use Rattle.line.specs.Read.{Look, found, short, misfit, common, kindFrom, furthest, setOr, setAt}
+use Rattle.line.specs.Read.{found, short, misfit, common, kindFrom, furthest, setOr, setAt}
 
 -- ---- how much two lists have in common
 

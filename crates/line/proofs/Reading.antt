@@ -2,22 +2,21 @@
 -- Assumes nothing.
 use mathlib.Core.Path.{_≡_, refl, sym, ap, ap₂, _∙_, subst}
 use mathlib.Core.Bool.{Bool, true, false, cond}
-use mathlib.Core.List.{List, [], _∷_, _++_, append-nil}
-use Prim.Native.Nat.{ℕ, zero, suc, _+_, _*_, _-_, _/_, _%_, _<_, _≤_}
+use mathlib.Core.List.{List, [], _∷_, append-nil}
+use Prim.Native.Nat.{ℕ, zero, suc, _+_, _*_, _-_, _/_, _<_, _≤_}
 use native.Mathlib.Nat.{add-zero}
 use native.Mathlib.Numerals.{add-one}
 use native.Mathlib.Omega.{arith}
 use borrow.Author.Tests.{lt-ltb, le-ltb, eq-eqb, ne-eqb}
-use lib.Dec.{ltb, eqb}
+use lib.Dec.{eqb}
 use lib.ListN.{length, take, drop, getD, drop-of-length-le, length-drop, length-append}
-use lib.Seq.{drop-cons, getD-drop, getD-take, take-all, take-at, length-take-le, sets, drop-nil}
-use Rattle.line.specs.declared.read.Cursor.{Cursor}
+use lib.Seq.{drop-cons, getD-drop, getD-take, take-all, take-at, length-take-le, sets}
 use Rattle.line.specs.declared.read.Answer.{Answer}
 use Rattle.line.specs.declared.read.Answer.the-variants.{Frame, SmallBuffer, NoFrame, TooShort, WrongCrc}
 use Rattle.line.specs.declared.sets.Start.{Start}
 use Rattle.line.specs.declared.sets.Start.the-variants.{Set, Short, Misfit}
 use Rattle.line.specs.Symbol.{nibbleOf, isNibble, octetsOf}
-use Rattle.line.specs.Kind.{kinds, setOf, sopKinds, carries}
+use Rattle.line.specs.Kind.{setOf, sopKinds}
 use Rattle.line.specs.Crc.{crcOf}
 use Rattle.line.specs.Frame.{Shape, drawn}
 use Rattle.line.specs.Read.{
@@ -35,21 +34,18 @@ use Rattle.line.specs.Read.{
   shapeAt,
   number,
   crcRight,
-  First,
   frame,
   wrongCrc,
-  tooShort,
-  noFrame,
   checked,
   firstOf,
   first,
 }
 use Rattle.line.specs.Start.{startOf}
-use Rattle.line.specs.Reader.{octetRoom, read, noAt, said, saysOf, filled, Tells, Reads}
+use Rattle.line.specs.Reader.{octetRoom, read, saysOf, filled, Tells, Reads}
 use Rattle.line.proofs.Nibbles.{nibbles-at}
 use Rattle.line.proofs.Looks.{Stands, Says}
 use Rattle.line.proofs.Starts.{IsKind, set-length, set-says}
-use Rattle.line.proofs.Bodies.{Run, run, End, end-true}
+use Rattle.line.proofs.Bodies.{run, End, end-true}
 use Rattle.line.proofs.Shapes.{length-drawn}
 use Rattle.line.proofs.Stores.{sets-front}
 use Rattle.line.proofs.Writing.{carrying, bare}

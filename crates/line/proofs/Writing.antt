@@ -1,23 +1,24 @@
 -- The writer's answer: a frame's symbols in the order in which they are put, and the answer of each way out.
 -- Assumes nothing.
 use mathlib.Core.Path.{_≡_, refl, sym, ap, _∙_}
-use mathlib.Core.Bool.{Bool, true, false, not, cond}
+use mathlib.Core.Bool.{Bool, true, false, cond}
 use mathlib.Core.List.{List, [], _∷_, _++_, append-nil, append-assoc}
+use mathlib.Core.Logic.{inl, inr}
 use mathlib.Core.Option.{Option, none, some}
 use Prim.Native.Nat.{ℕ, _+_, _*_, _/_, _%_, _<_, _≤_}
 use native.Mathlib.Omega.{arith}
 use borrow.Author.Tests.{lt-ltb, le-ltb, eq-eqb, ne-eqb}
-use lib.Dec.{ltb}
-use lib.ListN.{length, drop, set, length-append}
+use lib.ListN.{length, set, length-append}
 use lib.Seq.{sets}
 use Rattle.line.specs.declared.write.Written.{Written}
 use Rattle.line.specs.declared.write.Written.the-variants.{Sent, SmallBuffer, UnknownKind, WrongLength}
 use Rattle.line.specs.Symbol.{symbolOf, spelt, eop}
 use Rattle.line.specs.Kind.{kinds, setOf, sopKinds, carries}
 use Rattle.line.specs.Crc.{crcOf, fourOctets, withCrc}
-use Rattle.line.specs.Frame.{Frame, drawn, sealed, symbolsOf}
+use Rattle.line.specs.Frame.{Frame, message, alone, drawn, sealed, symbolsOf}
 use Rattle.line.specs.Refusal.{firstNo}
 use Rattle.line.specs.Write.{frameRoom, wrongLength, written, writerRows, sent, wrote, lent, Put, Writes}
+use Rattle.line.specs.Theorems.{FrameLengths}
 use Rattle.line.proofs.Stores.{sets-append, sets-front}
 use Rattle.line.proofs.Nibbles.{length-spelt}
 use Rattle.line.proofs.Starts.{set-length}
@@ -58,6 +59,10 @@ module _ (f : Frame) where
 
   length-alone : sopKinds ≤ f .kind → f .kind < kinds → length (symbolsOf f) ≡ 4
   length-alone h g = ap length (alone-symbols h) ∙ set-length (f .kind) g
+
+pub frame-lengths : FrameLengths
+frame-lengths f (message h o lo hi) = let n = length-message f h in inr (omega arith, omega arith)
+frame-lengths f (alone h k e) = inl (length-alone f h k)
 
 -- the runs of stores that put a message
 pub message-put : (f : Frame) (before s₁ s₂ s₃ tail : List ℕ) (c at end : ℕ) → f .kind < sopKinds

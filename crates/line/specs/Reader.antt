@@ -6,7 +6,6 @@ use mathlib.Core.List.{List, _++_}
 use Prim.Native.Nat.{ℕ, _+_}
 use lib.Dec.{ltb}
 use lib.ListN.{length, drop}
-use Rattle.line.specs.declared.read.Cursor.{Cursor}
 use Rattle.line.specs.declared.read.Answer.{Answer}
 use Rattle.line.specs.declared.read.Answer.the-variants.{Frame, SmallBuffer, NoFrame, TooShort, WrongCrc}
 use Rattle.line.specs.Frame.{drawn}

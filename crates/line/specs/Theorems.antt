@@ -2,17 +2,23 @@
 -- Assumes nothing.
 use mathlib.Core.Path.{_≡_}
 use mathlib.Core.List.{List, [], _++_}
-use mathlib.Core.Logic.{_↔_}
-use Prim.Native.Nat.{ℕ}
+use mathlib.Core.Logic.{_↔_, _⊎_}
+use Prim.Native.Nat.{ℕ, _≤_}
 use lib.ListN.{length, drop}
 use Rattle.line.specs.declared.write.Written.{Written}
 use Rattle.line.specs.declared.read.Answer.{Answer}
 use Rattle.line.specs.Crc.{crcOf}
 use Rattle.line.specs.Frame.{Frame, Whole, AllWhole, Shape, sealed, symbolsOf, joined}
-use Rattle.line.specs.Write.{written, Writes}
+use Rattle.line.specs.Write.{frameRoom, written, Writes}
 use Rattle.line.specs.Read.{frame, wrongCrc, tooShort, noFrame, first}
 use Rattle.line.specs.Reader.{said, Reads}
 use Rattle.line.specs.Place.{Cut, Longest, Holds, Spoilt}
+
+-- ---- A message's frame has 17 to 73 symbols, a set alone 4
+
+abbrev pub FrameLengths : Type 0
+FrameLengths =
+    (f : Frame) → Whole f → (length (symbolsOf f) ≡ 4) ⊎ ((17 ≤ length (symbolsOf f)) × (length (symbolsOf f) ≤ frameRoom))
 
 -- ---- 1. What was written is read back, whatever follows it, and what follows it is the rest
 

@@ -3,7 +3,7 @@ use Prim.Native.Nat.{ℕ, _-_, _≤_}
 use native.Mathlib.Omega.{arith}
 use borrow.Author.Needs.{needs}
 use lib.ListN.{length, drop}
-use Rattle.line.specs.Crc.{crcFrom, crcOctet, crcOf}
+use Rattle.line.specs.Crc.{crcFrom, crcOf}
 use Rattle.line.proofs.Register.{more, done}
 use Rattle.line.proofs.crc.crc.Statement.{statement}
 use Rattle.line.proofs.crc.crc.Tie as tie

@@ -1,4 +1,4 @@
-use Prim.Native.Nat.{ℕ, _/_}
+use Prim.Native.Nat.{_/_}
 use native.Mathlib.Omega.{arith}
 use lib.Bits.{mask-lt, and-mask}
 use Rattle.line.specs.Crc.{fourOctets}

@@ -1,9 +1,8 @@
-use mathlib.Core.Path.{_≡_, refl, sym, ap, _∙_}
-use Prim.Native.Nat.{ℕ, _-_, _≤_}
+use mathlib.Core.Path.{_≡_, refl}
+use Prim.Native.Nat.{_-_, _≤_}
 use native.Mathlib.Omega.{arith}
-use native.Mathlib.Numerals.{add-one}
 use borrow.Author.Needs.{needs}
-use Rattle.line.specs.Crc.{crcBit, crcBits, crcOctet}
+use Rattle.line.specs.Crc.{crcBits}
 use Rattle.line.proofs.Register.{turn, eighth}
 use Rattle.line.proofs.crc.octet.Statement.{statement}
 use Rattle.line.proofs.crc.octet.Tie as tie

@@ -1,7 +1,6 @@
 -- Each way out is one of the answers of `first` on what stands at the cursor.
 use borrow.Author.Needs.{needs}
 use mathlib.Core.Path.{ap, _∙_}
-use mathlib.Core.List.{[]}
 use native.Mathlib.Omega.{arith}
 use lib.ListN.{length, length-drop}
 use Rattle.line.specs.Read.{setAt}

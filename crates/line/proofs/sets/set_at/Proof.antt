@@ -1,7 +1,6 @@
 -- The loop's invariant: the sets of the kinds below were tried. The measure is what is left of the kinds.
 use borrow.Author.Needs.{needs}
 use Prim.Native.Nat.{_-_}
-use native.Mathlib.Omega.{arith}
 use Rattle.line.specs.Kind.{kinds}
 use Rattle.line.proofs.Matching.{Tried, untried, is-set, next-kind, cut-set, bad-set}
 use Rattle.line.proofs.sets.set_at.Statement.{statement}

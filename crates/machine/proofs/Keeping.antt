@@ -1,0 +1,196 @@
+-- What replacing a part of a good state asks for, so that it stays good.
+-- Assumes nothing.
+use mathlib.Core.Path.{refl}
+use mathlib.Core.Bool.{Bool, true, false, cond}
+use mathlib.Core.List.{List, [], _∷_, _++_}
+use mathlib.Core.Option.{Option, none, some}
+use Prim.Native.Nat.{ℕ, zero, suc, _-_, _<_, _≤_}
+use native.Mathlib.Omega.{arith}
+use lib.Dec.{eqb}
+use lib.ListN.{length, drop}
+use Rattle.line.specs.Frame.{Octets}
+use Rattle.line.specs.Kind.{sopKinds}
+use Rattle.machine.specs.Registers.{storedBits, stored, interrupta, interruptb, interrupt}
+use Rattle.machine.specs.State.{
+  Request,
+  Status,
+  Interrupts,
+  State,
+  powerUp,
+  withCells,
+  withTx,
+  withRx,
+  withStatus,
+  withInts,
+  withRequest,
+  withCrcChk,
+  withKind,
+  shows,
+  hides,
+  raisesA,
+  raisesB,
+  raises,
+}
+use Rattle.machine.specs.Status.{txRoom, rxRoom, clearedAt}
+use Rattle.machine.specs.Requests.{over}
+use Rattle.machine.specs.Packets.{when}
+use Rattle.machine.specs.Good.{Within, KindGood, OpenGood, RequestGood, Good}
+use Rattle.machine.proofs.Masks.{within-less, within-more, within-zero, cells-set}
+
+-- ---- lists of octets
+
+pub octets-append : (a b : List ℕ) → Octets a → Octets b → Octets (a ++ b)
+octets-append [] b p q = q
+octets-append (x ∷ xs) b p q = (p .0, octets-append xs b (p .1) q)
+
+pub octets-drop : (n : ℕ) (l : List ℕ) → Octets l → Octets (drop n l)
+octets-drop zero l o = o
+octets-drop (suc n) [] o = o
+octets-drop (suc n) (x ∷ xs) o = octets-drop n xs (o .1)
+
+-- ---- power-up
+
+pub power-up-good : Good powerUp
+power-up-good =
+    record {
+      cells = (refl, (refl, (refl, (refl, (refl, (refl, (refl, (refl, (refl, (refl, (refl, (refl, (refl, (refl, (refl, tt)))))))))))))));
+      tx = tt;
+      tx-few = omega arith;
+      rx = tt;
+      rx-few = omega arith;
+      status0a = refl;
+      kind = tt;
+      interrupta = refl;
+      interruptb = refl;
+      interrupt = refl;
+      request = tt;
+    }
+
+-- ---- a part replaced
+
+module _ (s : State) (g : Good s) where
+  pub keeps-cells : (a v : ℕ) → Good (withCells (stored a v (s .cells)) s)
+  unfolding stored
+  keeps-cells a v =
+      record {
+        cells = cells-set storedBits (s .cells) (a - 2) v (g .cells);
+        tx = g .tx;
+        tx-few = g .tx-few;
+        rx = g .rx;
+        rx-few = g .rx-few;
+        status0a = g .status0a;
+        kind = g .kind;
+        interrupta = g .interrupta;
+        interruptb = g .interruptb;
+        interrupt = g .interrupt;
+        request = g .request;
+      }
+
+  -- queue and request together, since they hang together
+  pub keeps-queue : (q : List ℕ) (r : Option Request) → Octets q → length q ≤ txRoom → OpenGood r q → Good (withTx q (withRequest r s))
+  keeps-queue q r o h p =
+      record {
+        cells = g .cells;
+        tx = o;
+        tx-few = h;
+        rx = g .rx;
+        rx-few = g .rx-few;
+        status0a = g .status0a;
+        kind = g .kind;
+        interrupta = g .interrupta;
+        interruptb = g .interruptb;
+        interrupt = g .interrupt;
+        request = p;
+      }
+
+  pub keeps-rx : (q : List ℕ) → Octets q → length q ≤ rxRoom → Good (withRx q s)
+  keeps-rx q o h =
+      record {
+        cells = g .cells;
+        tx = g .tx;
+        tx-few = g .tx-few;
+        rx = o;
+        rx-few = h;
+        status0a = g .status0a;
+        kind = g .kind;
+        interrupta = g .interrupta;
+        interruptb = g .interruptb;
+        interrupt = g .interrupt;
+        request = g .request;
+      }
+
+  pub keeps-status : (x : Status) → Within 0x33 (x .status0a) → KindGood (x .kind) → Good (withStatus x s)
+  keeps-status x h k =
+      record {
+        cells = g .cells;
+        tx = g .tx;
+        tx-few = g .tx-few;
+        rx = g .rx;
+        rx-few = g .rx-few;
+        status0a = h;
+        kind = k;
+        interrupta = g .interrupta;
+        interruptb = g .interruptb;
+        interrupt = g .interrupt;
+        request = g .request;
+      }
+
+  pub keeps-ints : (x : Interrupts) → Within 0x3F (x .a) → Within 0x01 (x .b) → Within 0x18 (x .main) → Good (withInts x s)
+  keeps-ints x h k m =
+      record {
+        cells = g .cells;
+        tx = g .tx;
+        tx-few = g .tx-few;
+        rx = g .rx;
+        rx-few = g .rx-few;
+        status0a = g .status0a;
+        kind = g .kind;
+        interrupta = h;
+        interruptb = k;
+        interrupt = m;
+        request = g .request;
+      }
+
+-- ---- what the definitions do to a part
+
+module _ (s : State) (g : Good s) where
+  pub keeps-over : Good (over s)
+  keeps-over = keeps-queue s g [] none tt (omega arith) tt
+
+  pub keeps-request : (q : Request) → RequestGood q (s .tx) → Good (withRequest (some q) s)
+  keeps-request q h = keeps-queue s g (s .tx) (some q) (g .tx) (g .tx-few) h
+
+  pub keeps-shows : (m : ℕ) → Within 0x33 m → Good (shows m s)
+  keeps-shows m h = keeps-status s g _ (within-more 0x33 (s .status .status0a) m (g .status0a) h) (g .kind)
+
+  pub keeps-hides : (m : ℕ) → Good (hides m s)
+  keeps-hides m = keeps-status s g _ (within-less 0x33 (0xFF - m) (s .status .status0a) (g .status0a)) (g .kind)
+
+  pub keeps-crc-chk : (b : Bool) → Good (withCrcChk b s)
+  keeps-crc-chk b = keeps-status s g _ (g .status0a) (g .kind)
+
+  pub keeps-kind : (k : ℕ) → k < sopKinds → Good (withKind k s)
+  keeps-kind k h = keeps-status s g _ (g .status0a) h
+
+  pub keeps-raises-a : (m : ℕ) → Within 0x3F m → Good (raisesA m s)
+  keeps-raises-a m h = keeps-ints s g _ (within-more 0x3F (s .ints .a) m (g .interrupta) h) (g .interruptb) (g .interrupt)
+
+  pub keeps-raises-b : (m : ℕ) → Within 0x01 m → Good (raisesB m s)
+  keeps-raises-b m h = keeps-ints s g _ (g .interrupta) (within-more 0x01 (s .ints .b) m (g .interruptb) h) (g .interrupt)
+
+  pub keeps-raises : (m : ℕ) → Within 0x18 m → Good (raises m s)
+  keeps-raises m h = keeps-ints s g _ (g .interrupta) (g .interruptb) (within-more 0x18 (s .ints .main) m (g .interrupt) h)
+
+  pub keeps-cleared : (r : ℕ) → Good (withInts (clearedAt r (s .ints)) s)
+  unfolding clearedAt
+  keeps-cleared r =
+      keeps-ints s g _ (either 0x3F (s .ints .a) (g .interrupta) (eqb r interrupta)) (either 0x01 (s .ints .b) (g .interruptb) (eqb r interruptb))
+      (either 0x18 (s .ints .main) (g .interrupt) (eqb r interrupt))
+    where
+      either : (m x : ℕ) → Within m x → (b : Bool) → Within m (cond b 0 x)
+      either m x h true = within-zero m
+      either m x h false = h
+
+  pub keeps-when : (b : Bool) (f : State → State) → Good (f s) → Good (when b f s)
+  keeps-when true f h = h
+  keeps-when false f h = g

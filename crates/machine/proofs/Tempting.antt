@@ -1,0 +1,342 @@
+-- What a tired builder forgets: data, latched bits, GoodCRCs, ends without room, masks, time and command bits.
+-- Assumes nothing.
+use mathlib.Core.Path.{_≡_, refl, sym, ap, ap₂, _∙_}
+use mathlib.Core.Bool.{Bool, true, false, not, cond}
+use mathlib.Core.List.{List, [], _∷_, _++_, append-nil}
+use mathlib.Core.Option.{Option, none, some}
+use Prim.Native.Nat.{ℕ, suc, _+_, _-_, _<_, _≤_}
+use native.Mathlib.Omega.{arith}
+use borrow.Author.Tests.{lt-ltb, le-ltb, ltb-false}
+use lib.Bits.{bitAnd}
+use lib.Dec.{ltb, eqb}
+use lib.ListN.{getD}
+use Rattle.line.specs.Frame.{Frame}
+use Rattle.line.specs.Read.{crcRight}
+use Rattle.line.specs.Refusal.{firstNo}
+use Rattle.line.specs.Write.{frameRoom}
+use Rattle.machine.specs.Registers.{storedBits, cell, switches1, has}
+use Rattle.machine.specs.State.{Phase, message, softReset, Request, State, reg, withCells, withTx, withRx, withRequest, withKind, shows, raises, raisesA, raisesB}
+use Rattle.machine.specs.Status.{txFull, rxFull, RETRYFAIL, I-RETRYFAIL, I-ALERT, I-TXSENT, I-SOFTRST, I-GCRCSENT, I-CRC-CHK}
+use Rattle.machine.specs.Queue.{inside}
+use Rattle.machine.specs.Headers.{GoodCRC, Soft-Reset, control, messageId, isControl}
+use Rattle.machine.specs.Requests.{
+  Effect,
+  silent,
+  sends,
+  sendsIf,
+  over,
+  wait,
+  softResetOf,
+  hardReset,
+  flight,
+  flightIn,
+  goesOn,
+  messageFails,
+  softFails,
+  fails,
+  expires,
+  elapses,
+  passes,
+  acknowledged,
+}
+use Rattle.machine.specs.Packets.{kindOn, hasRoom, awaited, repliesTo, rxToken, when, checks, softResetHeard, noted, keeps, stores, accepts, hears}
+use Rattle.machine.specs.Events.{pass, packet}
+use Rattle.machine.specs.Refusals.{no12, no1, no2, no6, no3, no5, no4, no7, no8, no11, no9, no10, refusal}
+use Rattle.machine.specs.Step.{queues, accepted, resultOf, step, after, frames}
+use Rattle.machine.specs.Good.{OpenGood}
+use Rattle.machine.specs.Theorems.{
+  DataIsData,
+  LatchedGoverns,
+  GoodCrcNotAnswered,
+  HeardRight,
+  AwaitedEnds,
+  Recorded,
+  TimeAdds,
+  CommandsNotStored,
+}
+use Rattle.machine.proofs.Masks.{Set, set-by, stays-set, outside, cells-at}
+use Rattle.machine.proofs.Messages.{stored-step}
+
+-- ---- data
+
+queued-tx : (s : State) (v : ℕ) → queues v s .tx ≡ s .tx ++ (v ∷ [])
+unfolding queues
+queued-tx s v = go (txFull (withTx (s .tx ++ (v ∷ [])) s))
+  where
+    go : (b : Bool) → when b (raises I-ALERT) (withTx (s .tx ++ (v ∷ [])) s) .tx ≡ s .tx ++ (v ∷ [])
+    go true = refl
+    go false = refl
+
+pub data-is-data : DataIsData
+unfolding inside
+data-is-data s room v enough i free h =
+    let p = stored-step s room v enough free (rw i refl) h in
+    (ap (λ (t : State). t .tx) (p .0) ∙ queued-tx s v, p .1)
+
+-- ---- packets
+
+quiet-cond : (b : Bool) (x y : Effect) → x .frames ≡ [] → y .frames ≡ [] → cond b x y .frames ≡ []
+quiet-cond true x y p q = p
+quiet-cond false x y p q = q
+
+stores-silent : (k : ℕ) (m : List ℕ) (s : State) → isControl GoodCRC m ≡ true → stores k m s .frames ≡ []
+unfolding stores repliesTo
+stores-silent k m s e = rw e refl
+
+pub good-crc-not-answered : GoodCrcNotAnswered
+unfolding step resultOf accepted hears accepts
+good-crc-not-answered s room k m e = go (refusal s (packet room k m))
+  where
+    go : (o : Option ℕ) → resultOf o s (packet room k m) .frames ≡ []
+    go (some n) = refl
+    go none =
+        quiet-cond (kindOn k s) _ _
+        (quiet-cond (crcRight m) _ _ (quiet-cond (hasRoom m (noted k m s)) _ _ (stores-silent k m (noted k m s) e) refl) refl)
+        refl
+
+-- what storing or dropping a packet leaves: queue, request and 3E; bits of 42 stay set
+record Leaves (s t : State) : Type 0 where
+  tx : t .tx ≡ s .tx
+  request : t .request ≡ s .request
+  a : t .ints .a ≡ s .ints .a
+  main : (m : ℕ) → Set m (s .ints .main) → Set m (t .ints .main)
+
+alerts : (s t : State) → Leaves s t → (b : Bool) → Leaves s (when b (raises I-ALERT) t)
+alerts s t h true =
+    record { tx = h .tx; request = h .request; a = h .a; main = λ m z. stays-set m (t .ints .main) I-ALERT (h .main m z) }
+alerts s t h false = h
+
+leaves-cond : (s : State) (b : Bool) (x y : Effect) → Leaves s (x .state) → Leaves s (y .state) → Leaves s (cond b x y .state)
+leaves-cond s true x y p q = p
+leaves-cond s false x y p q = q
+
+same : (s : State) → Leaves s s
+same s = record { tx = refl; request = refl; a = refl; main = λ m z. z }
+
+keeps-leaves : (k : ℕ) (m : List ℕ) (s : State) → Leaves s (keeps k m s)
+unfolding keeps
+keeps-leaves k m s =
+    alerts s (withKind k (withRx (s .rx ++ (rxToken k ∷ m)) s)) (record { tx = refl; request = refl; a = refl; main = λ m z. z })
+    (rxFull (withRx (s .rx ++ (rxToken k ∷ m)) s))
+
+stores-leaves : (k : ℕ) (m : List ℕ) (s : State) → Leaves s (stores k m s .state)
+unfolding stores
+stores-leaves k m s = go (repliesTo m s)
+  where
+    t : Leaves s (keeps k m s)
+    t = keeps-leaves k m s
+
+    go : (b : Bool)
+        → Leaves s (cond b (sends (control GoodCRC k (reg switches1 s) (messageId m)) (raisesB I-GCRCSENT (keeps k m s))) (silent (keeps k m s)) .state)
+    go true = record { tx = t .tx; request = t .request; a = t .a; main = t .main }
+    go false = t
+
+accepts-leaves : (k : ℕ) (m : List ℕ) (s : State) → Leaves (noted k m s) (accepts k m s .state)
+unfolding accepts
+accepts-leaves k m s =
+    leaves-cond (noted k m s) (hasRoom m (noted k m s)) _ _ (stores-leaves k m (noted k m s)) (alerts (noted k m s) _ (same (noted k m s)) true)
+
+heard : (s : State) (room k : ℕ) (m : List ℕ) → HeardRight s room k m → step s (packet room k m) .state ≡ accepts k m s .state
+unfolding step resultOf accepted hears
+heard s room k m h = rw (h .taken, h .on, h .right) refl
+
+-- what is known once the CRC is right
+record Noted (t : State) : Type 0 where
+  request : t .request ≡ none
+  tx : t .tx ≡ []
+  a : Set I-TXSENT (t .ints .a)
+
+acknowledges : (k : ℕ) (m : List ℕ) (s : State) → awaited k m s ≡ true → Noted (noted k m s)
+acknowledges k m s e = go (isControl Soft-Reset m)
+  where
+    ended : Noted (when (awaited k m s) acknowledged (checks s))
+    ended = rw e (record { request = refl; tx = refl; a = set-by (s .ints .a) I-TXSENT })
+
+    go : (b : Bool) → Noted (when b softResetHeard (when (awaited k m s) acknowledged (checks s)))
+    go true =
+        record {
+          request = ended .request;
+          tx = ended .tx;
+          a = stays-set I-TXSENT (when (awaited k m s) acknowledged (checks s) .ints .a) I-SOFTRST (ended .a);
+        }
+    go false = ended
+
+pub awaited-ends : AwaitedEnds
+unfolding has
+awaited-ends s room k m h e =
+    let n = acknowledges k m s e in
+    let l = accepts-leaves k m s in
+    let set : Set I-TXSENT (accepts k m s .state .ints .a) = ap (λ (x : ℕ). bitAnd x I-TXSENT) (l .a) ∙ n .a in
+    rw (heard s room k m h) (l .request ∙ n .request, (l .tx ∙ n .tx, ap (λ (x : ℕ). not (eqb x 0)) set))
+
+checks-crc : (k : ℕ) (m : List ℕ) (s : State) → Set I-CRC-CHK (noted k m s .ints .main)
+checks-crc k m s = go (isControl Soft-Reset m) (awaited k m s)
+  where
+    go : (b c : Bool) → Set I-CRC-CHK (when b softResetHeard (when c acknowledged (checks s)) .ints .main)
+    go true true = set-by (s .ints .main) I-CRC-CHK
+    go true false = set-by (s .ints .main) I-CRC-CHK
+    go false true = set-by (s .ints .main) I-CRC-CHK
+    go false false = set-by (s .ints .main) I-CRC-CHK
+
+pub recorded : Recorded
+unfolding has
+recorded s room k m h =
+    rw (heard s room k m h) (ap (λ (x : ℕ). not (eqb x 0)) (accepts-leaves k m s .main I-CRC-CHK (checks-crc k m s)))
+
+-- ---- time: registers have no part in it
+
+pub record Alike (x y : Effect) : Type 0 where
+  pub frames : x .frames ≡ y .frames
+  pub request : x .state .request ≡ y .state .request
+
+alike-cond : (b : Bool) (x y u v : Effect) → Alike x u → Alike y v → Alike (cond b x y) (cond b u v)
+alike-cond true x y u v p q = p
+alike-cond false x y u v p q = q
+
+alike-sends : (o : Option Frame) (s t : State) → s .request ≡ t .request → Alike (sendsIf o s) (sendsIf o t)
+alike-sends none s t e = record { frames = refl; request = e }
+alike-sends (some f) s t e = record { frames = refl; request = e }
+
+module _ (s : State) (cells : List ℕ) (q : Request) where
+  fails-alike : (p : Phase) (w : ℕ) → Alike (fails p w q (withCells cells s)) (fails p w q s)
+  unfolding fails messageFails softFails
+  fails-alike message w = alike-cond (q .soft) _ _ _ _ (record { frames = refl; request = refl }) (record { frames = refl; request = refl })
+  fails-alike softReset w = alike-cond (q .hard) _ _ _ _ (record { frames = refl; request = refl }) (record { frames = refl; request = refl })
+
+  elapses-alike : (w : ℕ) → Alike (elapses w q (withCells cells s)) (elapses w q s)
+  unfolding elapses expires
+  elapses-alike w =
+      alike-cond (ltb w wait) _ _ _ _ (record { frames = refl; request = refl })
+      (alike-cond (ltb (q .sent) (q .retries)) _ _ _ _ (alike-sends (flight s q) _ _ refl) (fails-alike (q .phase) (w - wait)))
+
+passes-alike : (s : State) (cells : List ℕ) (n : ℕ) (o : Option Request) → s .request ≡ o
+    → Alike (passes n o (withCells cells s)) (passes n o s)
+unfolding passes
+passes-alike s cells n none e = record { frames = refl; request = refl }
+passes-alike s cells n (some q) e = elapses-alike s cells q (q .waited + n)
+
+pub latched-governs : LatchedGoverns
+unfolding step refusal firstNo no12 no1 no2 no6 no3 no5 no4 no7 no8 no11 no9 no10 resultOf accepted
+latched-governs s cells room n = go (refusal s (pass room n))
+  where
+    go : (o : Option ℕ)
+        → (resultOf o (withCells cells s) (pass room n) .frames ≡ resultOf o s (pass room n) .frames)
+        × (resultOf o (withCells cells s) (pass room n) .state .request ≡ resultOf o s (pass room n) .state .request)
+    go (some k) = (refl, refl)
+    go none = let a = passes-alike s cells n (s .request) refl in (a .frames, a .request)
+
+-- ---- time: two parts are one
+
+taken-pass : (s : State) (room n : ℕ) → frameRoom ≤ room → n ≤ wait → refusal s (pass room n) ≡ none
+unfolding refusal firstNo no12 no1 no2 no6 no3 no5 no4 no7 no8 no11 no9 no10
+taken-pass s room n h k = simp (le-ltb room frameRoom h, le-ltb 1000 n k)
+
+-- an effect, and then m microseconds
+onward : ℕ → Effect → Effect
+onward m x =
+    record { state = passes m (x .state .request) (x .state) .state; frames = x .frames ++ passes m (x .state .request) (x .state) .frames }
+
+-- a request by its parts
+abbrev asking : ℕ → ℕ → Bool → Bool → Phase → ℕ → ℕ → Request
+asking a r soft hard p k w = record { switches1 = a; retries = r; soft = soft; hard = hard; phase = p; sent = k; waited = w }
+
+module _ (s : State) (a r : ℕ) (soft hard : Bool) (k : ℕ) where
+  -- how long a request has waited is told by the time in all, and not twice
+  waited-once : (p : Phase) (v w t : ℕ)
+      → elapses t (asking a r soft hard p k v) (withRequest (some (asking a r soft hard p k v)) s) ≡ elapses t (asking a r soft hard p k w) s
+  unfolding elapses expires fails flightIn messageFails softFails
+  waited-once message v w t = refl
+  waited-once softReset v w t = refl
+
+module _ (m : ℕ) where
+  -- the request goes on and its wait does not run out; or there is none
+  still : (fs : List Frame) (q : Request) (s : State) → q .waited + m < wait
+      → onward m (record { state = withRequest (some q) s; frames = fs })
+      ≡ record { state = withRequest (some (goesOn (q .phase) (q .sent) (q .waited + m) q)) s; frames = fs }
+  unfolding onward passes elapses
+  still fs q s h = simp (lt-ltb (q .waited + m) wait h, append-nil)
+
+  idle : (fs : List Frame) (s : State) → s .request ≡ none → onward m (record { state = s; frames = fs }) ≡ record { state = s; frames = fs }
+  unfolding onward passes
+  idle fs s e = simp (e, append-nil)
+
+  onward-cond : (b : Bool) (x y u v : Effect) → onward m x ≡ u → onward m y ≡ v → onward m (cond b x y) ≡ cond b u v
+  onward-cond true x y u v p q = p
+  onward-cond false x y u v p q = q
+
+  module _ (s : State) (q : Request) (w : ℕ) (h : w + m < wait) where
+    sends-onward : (o : Option Frame)
+        → onward m (sendsIf o (withRequest (some (goesOn (q .phase) (suc (q .sent)) w q)) s))
+        ≡ sendsIf o (withRequest (some (goesOn (q .phase) (suc (q .sent)) (w + m) q)) s)
+    sends-onward none = still [] (goesOn (q .phase) (suc (q .sent)) w q) s h
+    sends-onward (some f) = still (f ∷ []) (goesOn (q .phase) (suc (q .sent)) w q) s h
+
+    fails-onward : (p : Phase) → onward m (fails p w q s) ≡ fails p (w + m) q s
+    unfolding fails messageFails softFails
+    fails-onward message =
+        onward-cond (q .soft) _ _ _ _ (still (softResetOf q ∷ []) (goesOn softReset 0 w q) (raisesA I-RETRYFAIL (shows RETRYFAIL (over s))) h) (idle [] _ refl)
+    fails-onward softReset = onward-cond (q .hard) _ _ _ _ (idle (hardReset ∷ []) _ refl) (idle [] _ refl)
+
+    expires-onward : onward m (expires w q s) ≡ expires (w + m) q s
+    unfolding expires
+    expires-onward = onward-cond (ltb (q .sent) (q .retries)) _ _ _ _ (sends-onward (flight s q)) (fails-onward (q .phase))
+
+  before-the-end : (s : State) (q : Request) (w : ℕ) → ltb w wait ≡ true → elapses w q s ≡ silent (withRequest (some (goesOn (q .phase) (q .sent) w q)) s)
+  unfolding elapses
+  before-the-end s q w e = simp e
+
+  past-the-end : (s : State) (q : Request) (w : ℕ) → wait ≤ w → elapses w q s ≡ expires (w - wait) q s
+  unfolding elapses
+  past-the-end s q w h = simp (le-ltb w wait h)
+
+  waiting : (s : State) (q : Request) (w : ℕ) → onward m (silent (withRequest (some (goesOn (q .phase) (q .sent) w q)) s)) ≡ elapses (w + m) q s
+  unfolding onward passes
+  waiting s q w =
+      waited-once s (q .switches1) (q .retries) (q .soft) (q .hard) (q .sent) (q .phase) w (q .waited) (w + m)
+
+  elapses-onward : (s : State) (q : Request) (w : ℕ) → w + m < wait + wait → onward m (elapses w q s) ≡ elapses (w + m) q s
+  elapses-onward s q w h = go (ltb w wait) refl
+    where
+      go : (b : Bool) → ltb w wait ≡ b → onward m (elapses w q s) ≡ elapses (w + m) q s
+      go true e = ap (onward m) (before-the-end s q w e) ∙ waiting s q w
+      go false e =
+          let z = ltb-false w wait e in
+          ap (onward m) (past-the-end s q w z) ∙ expires-onward s q (w - wait) (omega arith)
+          ∙ ap (λ (t : ℕ). expires t q s) (omega arith) ∙ sym (past-the-end s q (w + m) (omega arith))
+
+passes-onward : (s : State) (n m : ℕ) → n + m ≤ wait → (o : Option Request) → OpenGood o (s .tx) → s .request ≡ o
+    → onward m (passes n o s) ≡ passes (n + m) o s
+unfolding passes
+passes-onward s n m h none g e = idle m [] s e
+passes-onward s n m h (some q) g e =
+    let w = g .waited in
+    elapses-onward m s q (q .waited + n) (omega arith) ∙ ap (λ (t : ℕ). elapses t q s) (omega arith)
+
+-- a time event that is taken
+passed : (s : State) (room n : ℕ) → frameRoom ≤ room → n ≤ wait
+    → (step s (pass room n) .state ≡ passes n (s .request) s .state) × (step s (pass room n) .frames ≡ passes n (s .request) s .frames)
+unfolding step resultOf accepted
+passed s room n enough h = (rw (taken-pass s room n enough h) refl, rw (taken-pass s room n enough h) refl)
+
+pub time-adds : TimeAdds
+unfolding after frames onward
+time-adds s room n m g enough h =
+    let a = passed s room n enough (omega arith) in
+    let b = passed (step s (pass room n) .state) room m enough (omega arith) in
+    let c = passed s room (n + m) enough h in
+    let t = passes-onward s n m h (s .request) (g .request) refl in
+    let next : State → Effect = λ u. passes m (u .request) u in (
+      b .0 ∙ ap (λ (u : State). next u .state) (a .0) ∙ ap (λ (x : Effect). x .state) t ∙ sym (c .0),
+      ap₂ (λ (x y : List Frame). x ++ (y ++ [])) (a .1) (b .1 ∙ ap (λ (u : State). next u .frames) (a .0))
+          ∙ simp append-nil (ap (λ (x : Effect). x .frames) t ∙ sym (c .1)),
+    )
+
+-- ---- command bits
+
+pub commands-not-stored : CommandsNotStored
+unfolding has cell
+commands-not-stored s g =
+    (not-in 4 0x41 refl, (not-in 5 0x04 refl, (not-in 7 0x40 refl, not-in 10 0x03 refl)))
+  where
+    not-in : (i k : ℕ) → bitAnd (getD storedBits i 0) k ≡ 0 → not (eqb (bitAnd (getD (s .cells) i 0) k) 0) ≡ false
+    not-in i k e = ap (λ (x : ℕ). not (eqb x 0)) (outside (getD storedBits i 0) k (getD (s .cells) i 0) (cells-at storedBits (s .cells) i (g .cells)) e)

@@ -1,0 +1,301 @@
+-- What holds of the machine; proofs/ has the proof of each statement. Bench.antt has the table of worked cases.
+-- Assumes nothing.
+use mathlib.Core.Path.{_≡_}
+use mathlib.Core.Bool.{true, false, cond}
+use mathlib.Core.List.{List, [], _∷_, _++_, map}
+use mathlib.Core.Logic.{_↔_, _⊎_}
+use mathlib.Core.Option.{none, some}
+use Prim.Native.Nat.{ℕ, suc, _+_, _<_, _≤_}
+use lib.ListN.{length, replicate}
+use Rattle.line.specs.Kind.{sopKinds, setOf}
+use Rattle.line.specs.Frame.{Frame, Whole, AllWhole, joined}
+use Rattle.line.specs.Read.{crcRight}
+use Rattle.line.specs.Refusal.{Row}
+use Rattle.line.specs.Write.{frameRoom}
+use Rattle.machine.specs.Registers.{
+  switches1,
+  control0,
+  control1,
+  control3,
+  reset,
+  fifos,
+  has,
+  TX-FLUSH,
+  TX-START,
+  RX-FLUSH,
+  SEND-HARD-RESET,
+  PD-RESET,
+  SW-RES,
+}
+use Rattle.machine.specs.State.{Request, State, powerUp, reg, withCells}
+use Rattle.machine.specs.Status.{txRoom, I-TXSENT, I-CRC-CHK}
+use Rattle.machine.specs.Queue.{START, closing, setSymbol, inside, spelt}
+use Rattle.machine.specs.Headers.{GoodCRC, isControl}
+use Rattle.machine.specs.Requests.{wait, hardReset, driverOn, softResetOf, latched}
+use Rattle.machine.specs.Packets.{kindOn, awaited}
+use Rattle.machine.specs.Events.{Event, write, read, pass, packet, Fits, Reply, no, value}
+use Rattle.machine.specs.Refusals.{starts, table, refusal}
+use Rattle.machine.specs.Step.{Result, step, after, frames, recordOf}
+use Rattle.machine.specs.Good.{Good}
+
+abbrev pub AllFit : List Event → Type 0
+AllFit [] = Unit {0}
+AllFit (e ∷ es) = Fits e × AllFit es
+
+-- ---- 1. Every state that events lead to is good
+
+abbrev pub PowerUpGood : Type 0
+PowerUpGood = Good powerUp
+
+abbrev pub StaysGood : Type 0
+StaysGood = (s : State) (e : Event) → Good s → Fits e → Good (step s e .state)
+
+abbrev pub AlwaysGood : Type 0
+AlwaysGood = (es : List Event) → AllFit es → Good (after powerUp es)
+
+-- ---- 2. Condition 1: a refusal is given exactly when its row is the first that applies, and changes nothing
+
+abbrev pub NoneApplies : List Row → Type 0
+NoneApplies [] = Unit {0}
+NoneApplies (r ∷ rs) = (r .applies ≡ false) × NoneApplies rs
+
+-- a row with this number applies, and none before it does
+pub record FirstToApply (n : ℕ) (rows : List Row) : Type 0 where
+  pub before : List Row
+  pub here : Row
+  pub behind : List Row
+  pub is : rows ≡ before ++ (here ∷ behind)
+  pub number : here .number ≡ n
+  pub applies : here .applies ≡ true
+  pub not-before : NoneApplies before
+
+abbrev pub RefusedExactly : Type 0
+RefusedExactly = (s : State) (e : Event) (n : ℕ) → (step s e .reply ≡ no n) ↔ FirstToApply n (table s e)
+
+abbrev pub RefusalChangesNothing : Type 0
+RefusalChangesNothing = (s : State) (e : Event) (n : ℕ) → step s e .reply ≡ no n → (step s e .state ≡ s) × (step s e .frames ≡ [])
+
+-- an event after some history is refused with this number
+pub record Given (n : ℕ) : Type 0 where
+  pub history : List Event
+  pub event : Event
+  pub fits : AllFit history × Fits event
+  pub refused : step (after powerUp history) event .reply ≡ no n
+
+pub record EachNumberGiven : Type 0 where
+  pub no-12 : Given 12
+  pub no-1 : Given 1
+  pub no-2 : Given 2
+  pub no-6 : Given 6
+  pub no-3 : Given 3
+  pub no-5 : Given 5
+  pub no-4 : Given 4
+  pub no-7 : Given 7
+  pub no-8 : Given 8
+  pub no-11 : Given 11
+  pub no-9 : Given 9
+  pub no-10 : Given 10
+
+-- a row with this number applies
+pub record Applies (n : ℕ) (rows : List Row) : Type 0 where
+  pub before : List Row
+  pub here : Row
+  pub behind : List Row
+  pub is : rows ≡ before ++ (here ∷ behind)
+  pub number : here .number ≡ n
+  pub applies : here .applies ≡ true
+
+-- two rows apply to an event after some history, and the first number is given
+pub record GivenBefore (n m : ℕ) : Type 0 where
+  pub history : List Event
+  pub event : Event
+  pub refused : step (after powerUp history) event .reply ≡ no n
+  pub other : Applies m (table (after powerUp history) event)
+
+-- the order of checks: 12 before the first and the last of the others, and each later pair that can meet
+pub record OrderOfChecks : Type 0 where
+  pub buffer-address : GivenBefore 12 1
+  pub buffer-time : GivenBefore 12 10
+  pub open-token : GivenBefore 6 3
+  pub open-message : GivenBefore 6 4
+  pub open-driver : GivenBefore 6 7
+  pub message-driver : GivenBefore 4 7
+  pub kind-length : GivenBefore 11 9
+
+-- ---- 3. At most one frame leaves in an event, and it is whole
+
+abbrev pub OneFrame : Type 0
+OneFrame = (s : State) (e : Event) → Good s → Fits e → length (step s e .frames) ≤ 1
+
+abbrev pub WholeFrames : Type 0
+WholeFrames = (s : State) (e : Event) → Good s → Fits e → AllWhole (step s e .frames)
+
+-- so no symbols are sent, or 4, or 17 to 73
+abbrev pub SymbolsSent : Type 0
+SymbolsSent =
+    (s : State) (e : Event) → Good s → Fits e
+    → (length (joined (step s e .frames)) ≡ 0)
+    ⊎ ((length (joined (step s e .frames)) ≡ 4)
+    ⊎ ((17 ≤ length (joined (step s e .frames))) × (length (joined (step s e .frames)) ≤ frameRoom)))
+
+-- ---- 4. What a queue spells
+
+-- a set's tokens, one counted block, CRC, EOP, driver off, and no more
+pub record Spells (q : List ℕ) (f : Frame) : Type 0 where
+  pub set : List ℕ
+  pub sop : f .kind < sopKinds
+  pub tokens : map setSymbol set ≡ setOf (f .kind)
+  pub many : 2 ≤ length (f .octets)
+  pub few : length (f .octets) ≤ 30
+  pub is : q ≡ set ++ ((0x80 + length (f .octets)) ∷ (f .octets ++ closing))
+
+abbrev pub SpeltExactly : Type 0
+SpeltExactly = (q : List ℕ) (f : Frame) → (spelt q ≡ some f) ↔ Spells q f
+
+-- ---- 5. Retries are real
+
+-- so many waits run out, and nothing else happens
+abbrev pub waits : ℕ → ℕ → List Event
+waits room n = replicate n (pass room wait)
+
+-- what follows the message: Soft_Resets if AUTO_SOFTRESET was latched, and then a Hard Reset if AUTO_HARDRESET was
+abbrev pub sequel : Request → List Frame
+sequel q =
+    cond (q .soft)
+    (replicate (suc (q .retries)) (softResetOf q) ++ cond (q .hard) (hardReset ∷ []) [])
+    []
+
+-- an accepted start, by the token or by TX_START
+pub record Started (s : State) (e : Event) (f : Frame) : Type 0 where
+  pub room : ℕ
+  pub address : ℕ
+  pub octet : ℕ
+  pub is : e ≡ write room address octet
+  pub starting : starts s address octet ≡ true
+  pub taken : refusal s e ≡ none
+  pub sent : step s e .frames ≡ f ∷ []
+
+-- the frame at 0, 1,000 .. microseconds, r + 1 times in all
+abbrev pub SentAgain : Type 0
+SentAgain =
+    (s : State) (e : Event) (f : Frame) (room n : ℕ) → frameRoom ≤ room → Started s e f → n ≤ latched s .retries
+    → frames s (e ∷ waits room n) ≡ replicate (suc n) f
+
+-- then what was latched says, r + 1 times again, and the request is over
+abbrev pub SentToTheEnd : Type 0
+SentToTheEnd =
+    (s : State) (e : Event) (f : Frame) (room : ℕ) → frameRoom ≤ room → Started s e f
+    → let r = suc (latched s .retries) in
+    (frames s (e ∷ waits room (r + r)) ≡ replicate r f ++ sequel (latched s))
+    × (after s (e ∷ waits room (r + r)) .request ≡ none)
+
+-- ---- 6. Models that 01 shuts out ('How tight each promise is')
+
+-- what a model answers to an event after a history
+abbrev pub Model : Type 0
+Model = List Event → Event → Result
+
+abbrev pub ours : Model
+ours es e = step (after powerUp es) e
+
+-- refusals are given only as listed
+abbrev pub RefusesAsListed : Model → Type 0
+RefusesAsListed m =
+    (es : List Event) (e : Event) (n : ℕ) → m es e .reply ≡ no n → FirstToApply n (table (after powerUp es) e)
+
+-- different registers are read as different values
+abbrev pub TellsApart : Model → Type 0
+TellsApart m = (m [] (read 73 0x01) .reply ≡ value 0x91) × (m [] (read 73 0x02) .reply ≡ value 0x03)
+
+-- what is written is read
+abbrev pub ReadsWhatWasWritten : Model → Type 0
+ReadsWhatWasWritten m = (v : ℕ) → v < 256 → m (write 73 0x02 v ∷ []) (read 73 0x02) .reply ≡ value v
+
+-- while there are retries to send, a wait that runs out sends the frame again
+abbrev pub SendsAgain : Model → Type 0
+SendsAgain m =
+    (es : List Event) (e : Event) (f : Frame) (n : ℕ) → Started (after powerUp es) e f → n < latched (after powerUp es) .retries
+    → m (es ++ (e ∷ waits 73 n)) (pass 73 wait) .frames ≡ f ∷ []
+
+pub record OursDoes : Type 0 where
+  pub refuses : RefusesAsListed ours
+  pub tells : TellsApart ours
+  pub reads : ReadsWhatWasWritten ours
+  pub sends : SendsAgain ours
+
+pub record ShutOut : Type 0 where
+  pub refusing : (m : Model) → ((es : List Event) (e : Event) → (n : ℕ) × (m es e .reply ≡ no n)) → RefusesAsListed m → ⊥
+  pub alike : (m : Model) (r : Reply) → ((es : List Event) (e : Event) → m es e .reply ≡ r) → TellsApart m → ⊥
+  pub forgetful : (m : Model) → ((es : List Event) (e : Event) → m es e ≡ m [] e) → ReadsWhatWasWritten m → ⊥
+  pub pretending : (m : Model) → ((es : List Event) (room n : ℕ) → m es (pass room n) .frames ≡ []) → SendsAgain m → ⊥
+
+-- ---- 7. The record of a history names its frames
+
+abbrev pub RecordNamesFrames : Type 0
+RecordNamesFrames =
+    (es : List Event) → AllFit es
+    → AllWhole (frames powerUp es) × ((gs : List Frame) → AllWhole gs → joined gs ≡ recordOf powerUp es → gs ≡ frames powerUp es)
+
+abbrev pub RecordsDiffer : Type 0
+RecordsDiffer =
+    (es fs : List Event) → AllFit es → AllFit fs → (frames powerUp es ≡ frames powerUp fs → ⊥)
+    → recordOf powerUp es ≡ recordOf powerUp fs → ⊥
+
+-- a message written octet by octet, whatever its octets are, leaves whole at the start token
+abbrev pub AnyMessageSent : Type 0
+AnyMessageSent =
+    (s : State) (f : Frame) (set : List ℕ) (room : ℕ) → Whole f → map setSymbol set ≡ setOf (f .kind) → f .kind < sopKinds
+    → s .tx ≡ [] → s .request ≡ none → driverOn (reg switches1 s) ≡ true → frameRoom ≤ room
+    → frames s (map (write room fifos) (set ++ ((0x80 + length (f .octets)) ∷ (f .octets ++ (closing ++ (START ∷ [])))))) ≡ f ∷ []
+
+-- ---- 8. What a tired builder forgets (01, 'Tempting to a tired builder', 'Registers', 'Start')
+
+-- inside a counted block every octet is data: it is stored, and nothing is sent
+abbrev pub DataIsData : Type 0
+DataIsData =
+    (s : State) (room v : ℕ) → frameRoom ≤ room → inside (s .tx) ≡ true → s .request ≡ none → length (s .tx) < txRoom
+    → (step s (write room fifos v) .state .tx ≡ s .tx ++ (v ∷ [])) × (step s (write room fifos v) .frames ≡ [])
+
+-- registers that change in mid-request change neither what leaves nor when
+abbrev pub LatchedGoverns : Type 0
+LatchedGoverns =
+    (s : State) (cells : List ℕ) (room n : ℕ)
+    → (step (withCells cells s) (pass room n) .frames ≡ step s (pass room n) .frames)
+    × (step (withCells cells s) (pass room n) .state .request ≡ step s (pass room n) .state .request)
+
+abbrev pub GoodCrcNotAnswered : Type 0
+GoodCrcNotAnswered = (s : State) (room k : ℕ) (m : List ℕ) → isControl GoodCRC m ≡ true → step s (packet room k m) .frames ≡ []
+
+-- a packet of a kind that is on, with right CRC
+pub record HeardRight (s : State) (room k : ℕ) (m : List ℕ) : Type 0 where
+  pub taken : refusal s (packet room k m) ≡ none
+  pub on : kindOn k s ≡ true
+  pub right : crcRight m ≡ true
+
+-- the awaited GoodCRC ends the request, whether Rx has room or not
+abbrev pub AwaitedEnds : Type 0
+AwaitedEnds =
+    (s : State) (room k : ℕ) (m : List ℕ) → HeardRight s room k m → awaited k m s ≡ true
+    → (step s (packet room k m) .state .request ≡ none)
+    × ((step s (packet room k m) .state .tx ≡ []) × (has I-TXSENT (step s (packet room k m) .state .ints .a) ≡ true))
+
+-- whatever the masks are, what happened is recorded
+abbrev pub Recorded : Type 0
+Recorded =
+    (s : State) (room k : ℕ) (m : List ℕ) → HeardRight s room k m
+    → has I-CRC-CHK (step s (packet room k m) .state .ints .main) ≡ true
+
+-- a new wait begins when the old one runs out: time in two parts is time in one
+abbrev pub TimeAdds : Type 0
+TimeAdds =
+    (s : State) (room n m : ℕ) → Good s → frameRoom ≤ room → n + m ≤ wait
+    → (after s (pass room n ∷ pass room m ∷ []) ≡ after s (pass room (n + m) ∷ []))
+    × (frames s (pass room n ∷ pass room m ∷ []) ≡ frames s (pass room (n + m) ∷ []))
+
+-- TX_FLUSH, TX_START, RX_FLUSH, SEND_HARD_RESET, PD_RESET and SW_RES are never stored
+abbrev pub CommandsNotStored : Type 0
+CommandsNotStored =
+    (s : State) → Good s
+    → (has (TX-FLUSH + TX-START) (reg control0 s) ≡ false)
+    × ((has RX-FLUSH (reg control1 s) ≡ false)
+    × ((has SEND-HARD-RESET (reg control3 s) ≡ false) × (has (PD-RESET + SW-RES) (reg reset s) ≡ false)))
