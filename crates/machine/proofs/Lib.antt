@@ -2,6 +2,7 @@
 pub mod Computing
 pub mod Masks
 pub mod Refusing
+pub mod Checking
 pub mod Spelling
 pub mod Blocks
 pub mod Messages

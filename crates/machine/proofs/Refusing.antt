@@ -83,7 +83,7 @@ first-some-exactly rows n = (λ e. rw e at (first-means rows), some-first rows n
 -- ---- 2. Refused exactly
 
 -- what is accepted is not answered by no
-accepted-reply : (s : State) (e : Event) (n : ℕ) → replyTo s e ≡ no n → ⊥
+pub accepted-reply : (s : State) (e : Event) (n : ℕ) → replyTo s e ≡ no n → ⊥
 unfolding replyTo
 accepted-reply s (write r a v) n q = let z : _≡_ {A = ℕ} 0 1 = cc in omega arith
 accepted-reply s (read r a) n q = let z : _≡_ {A = ℕ} 0 1 = cc in omega arith

@@ -1,0 +1,7 @@
+-- Laws that the functions' proofs share.
+pub mod Octets
+pub mod Queueing
+pub mod Storing
+pub mod Serving
+pub mod Showing
+pub mod Answering

@@ -1,0 +1,48 @@
+-- What a method owes, by whether its event is refused; and what each kind of event is in the machine.
+-- Assumes nothing.
+use mathlib.Core.Path.{_≡_, refl, sym, ap, _∙_, subst}
+use mathlib.Core.Bool.{Bool, true, false, not, cond, _&&_}
+use mathlib.Core.List.{List, [], _∷_, _++_}
+use mathlib.Core.Option.{Option, none, some}
+use Prim.Native.Nat.{ℕ, _-_, _<_, _≤_}
+use native.Mathlib.Omega.{arith}
+use borrow.Author.Tests.{lt-ltb, le-ltb}
+use lib.Dec.{ltb}
+use lib.ListN.{length}
+use Rattle.line.specs.Frame.{joined}
+use Rattle.line.specs.Write.{frameRoom}
+use Rattle.machine.specs.State.{State}
+use Rattle.machine.specs.Events.{Event, Fits}
+use Rattle.machine.specs.Refusals.{refusal}
+use Rattle.machine.specs.Step.{accepted, replyTo, resultOf, step}
+use Rattle.machine.specs.Good.{Good}
+use Rattle.machine.proofs.Refusing.{accepted-reply}
+use Rattle.machine.proofs.Staying.{stays-good}
+use Rattle.fusb302.specs.declared.device.Device.{Device}
+use Rattle.fusb302.specs.declared.device.Reply.the-variants.{Done, Value, No}
+use Rattle.fusb302.specs.declared.device.Outcome.{Outcome}
+use Rattle.fusb302.specs.View.{view, Arranged, Asks}
+use Rattle.fusb302.specs.Serves.{replied, over, Serves}
+
+module _ (e : Event) (d : Device) (before : List ℕ) (asks : Asks d) where
+  pub serves-no : (n : ℕ) → refusal (view d) e ≡ some n → Serves e d before (record { device = d; reply = No n; count = 0 }) before
+  unfolding step resultOf joined
+  serves-no n h =
+      record { state = rw h refl; asks = asks; reply = rw h refl; count = rw h refl; lent = rw h refl; refused = λ m q. refl }
+
+  -- a taken event: the device after it, its reply, and the frames' symbols
+  module _ (taken : refusal (view d) e ≡ none) (fits : Fits e) (r : Outcome) (after : List ℕ) (arranged : Arranged (r .device)) where
+    pub serves-yes : view (r .device) ≡ accepted (view d) e .state → replied (r .reply) ≡ replyTo (view d) e
+        → r .count ≡ length (joined (accepted (view d) e .frames)) → after ≡ over (joined (accepted (view d) e .frames)) before
+        → Serves e d before r after
+    unfolding step resultOf
+    serves-yes state reply count lent =
+        let is : view (r .device) ≡ step (view d) e .state = rw taken state in
+        record {
+          state = is;
+          asks = record { arranged = arranged; good = subst Good (sym is) (stays-good (view d) e (asks .good) fits) };
+          reply = rw taken reply;
+          count = rw taken count;
+          lent = rw taken lent;
+          refused = λ n q. absurd (accepted-reply (view d) e n (sym reply ∙ ap replied q));
+        }

@@ -1,0 +1,64 @@
+-- The status registers and INT_N, from the parts of a device.
+-- Assumes nothing.
+use mathlib.Core.Path.{_≡_, refl, sym, ap, ap₂, _∙_}
+use mathlib.Core.Bool.{Bool, true, false, not, cond, _&&_, _||_}
+use mathlib.Core.Option.{none, some}
+use Prim.Native.Nat.{ℕ, _+_, _-_, _<_, _≤_}
+use native.Mathlib.Omega.{arith}
+use borrow.Author.Tests.{ne-eqb}
+use lib.Dec.{ltb, eqb}
+use lib.ListN.{length, take, getD}
+use lib.Seq.{length-take-le}
+use Rattle.line.specs.Kind.{sopKinds}
+use Rattle.machine.specs.Registers.{cell, has, INT-MASK}
+use Rattle.machine.specs.Status.{txRoom, rxRoom, flag, isLast, lastIs, status0Of, status1Of, unmasked, intLow}
+use Rattle.fusb302.specs.declared.queue.Queue.{Queue}
+use Rattle.fusb302.specs.declared.fifo.Fifo.{Fifo}
+use Rattle.fusb302.specs.declared.device.Device.{Device}
+use Rattle.fusb302.specs.Queued.{queued, Kept, sopKind}
+use Rattle.fusb302.specs.Held.{held, Sound}
+use Rattle.fusb302.specs.View.{view, Arranged}
+
+-- ---- how many octets are held
+
+pub held-length : (f : Fifo) → Sound f → length (held f) ≡ f .len
+held-length f h = length-take-le (f .len) (f .octets) (omega arith)
+
+pub queued-length : (q : Queue) → Kept q → length (queued q) ≡ q .len
+queued-length q h = let s = h .size in let r = h .room in length-take-le (q .len) (q .octets) (omega arith)
+
+-- ---- the kind last stored
+
+pub last-not : (j k : ℕ) → (k ≡ j → ⊥) → isLast j (sopKind k) ≡ false
+last-not j k h = go (ltb k sopKinds)
+  where
+    go : (b : Bool) → isLast j (cond b (some k) none) ≡ false
+    go true = ne-eqb k j h
+    go false = refl
+
+-- ---- 40 and 41
+
+module _ (d : Device) (arranged : Arranged d) where
+  pub status0-is : (x y : ℕ) (full : Bool) → x ≡ flag 0x10 (d .status .«crc_chk»)
+      → full ≡ (eqb (d .rx .len) rxRoom || eqb (d .tx .len) txRoom) → y ≡ flag 0x08 full → x + y ≡ status0Of (view d)
+  unfolding status0Of
+  status0-is x y full p q r =
+      ap₂ (λ (a b : ℕ). a + b) p
+      (r ∙ ap (flag 0x08) (q ∙ sym (ap₂ (λ (a b : ℕ). eqb a rxRoom || eqb b txRoom) (held-length (d .rx) (arranged .rx)) (queued-length (d .tx) (arranged .tx)))))
+
+  pub status1-is : (k a b c e : ℕ) → k ≡ flag 0x80 (lastIs (view d) 2) + flag 0x40 (lastIs (view d) 1)
+      → a ≡ flag 0x20 (eqb (d .rx .len) 0) → b ≡ flag 0x10 (eqb (d .rx .len) rxRoom)
+      → c ≡ flag 0x08 (eqb (d .tx .len) 0) → e ≡ flag 0x04 (eqb (d .tx .len) txRoom)
+      → k + a + b + c + e ≡ status1Of (view d)
+  unfolding status1Of
+  status1-is k a b c e pk pa pb pc pe =
+      rw (held-length (d .rx) (arranged .rx), queued-length (d .tx) (arranged .tx)) (omega arith)
+
+-- ---- INT_N
+
+-- by its four tests
+pub int-n-is : (d : Device) (m a b x : Bool) → m ≡ has INT-MASK (getD (d .cells) 4 0) → a ≡ unmasked (d .ints .a) (getD (d .cells) 12 0)
+    → b ≡ unmasked (d .ints .b) (getD (d .cells) 13 0) → x ≡ unmasked (d .ints .main) (getD (d .cells) 8 0)
+    → not (intLow (view d)) ≡ not (not m && (a || (b || x)))
+unfolding intLow cell
+int-n-is d m a b x pm pa pb px = rw (← pm, ← pa, ← pb, ← px) refl

@@ -1,0 +1,18 @@
+-- Both FIFOs are empty and all else is literal.
+use borrow.Author.Needs.{needs}
+use mathlib.Core.Path.{refl}
+use Rattle.fusb302.proofs.Answering.{powered}
+use Rattle.fusb302.proofs.device.Device.power_up.Statement.{statement}
+use Rattle.fusb302.proofs.device.Device.power_up.Tie as tie
+
+empty-requires : tie.Need-empty-requires
+empty-requires c κs = search needs
+
+empty-requires-2 : tie.Need-empty-requires-2
+empty-requires-2 c κs = search needs
+
+returns : tie.Need-returns
+returns c = powered (c .before .empty .result) (c .empty2 .result) (c .before .empty .ensures .1) (c .empty2 .ensures .1) (record { cells = refl; tx = c .before .empty .ensures .0; rx = c .empty2 .ensures .0 })
+
+pub power-up-spec : {M : Type 1} → statement M
+power-up-spec = tie.close (tie.spec empty-requires empty-requires-2 returns)

@@ -1,0 +1,39 @@
+-- What every event method promises: the machine's step, in device, reply, count and lent symbols.
+-- Assumes nothing.
+use mathlib.Core.Path.{_≡_}
+use mathlib.Core.List.{List, _++_}
+use Prim.Native.Nat.{ℕ, _≤_}
+use lib.ListN.{length, drop}
+use Rattle.line.specs.Frame.{joined}
+use Rattle.line.specs.Write.{frameRoom}
+use Rattle.machine.specs.Registers.{fifos}
+use Rattle.machine.specs.Events as events
+use Rattle.machine.specs.Events.{Event}
+use Rattle.machine.specs.Step.{step}
+use Rattle.fusb302.specs.declared.device.Device.{Device}
+use Rattle.fusb302.specs.declared.device.Reply.{Reply}
+use Rattle.fusb302.specs.declared.device.Reply.the-variants.{Done, Value, No}
+use Rattle.fusb302.specs.declared.device.Outcome.{Outcome}
+use Rattle.fusb302.specs.View.{view, Asks}
+
+-- what a reply means, in 01's numbers and values
+abbrev pub replied : Reply → events.Reply
+replied Done = events.done
+replied (Value v) = events.value v
+replied (No n) = events.no n
+
+-- symbols at the beginning of what was lent, and then what stood there
+abbrev pub over : List ℕ → List ℕ → List ℕ
+over f l = f ++ drop (length f) l
+
+pub record Serves (e : Event) (d : Device) (before : List ℕ) (r : Outcome) (after : List ℕ) : Type 0 where
+  pub state : view (r .device) ≡ step (view d) e .state
+  pub asks : Asks (r .device)
+  pub reply : replied (r .reply) ≡ step (view d) e .reply
+  pub count : r .count ≡ length (joined (step (view d) e .frames))
+  pub lent : after ≡ over (joined (step (view d) e .frames)) before
+  pub refused : (n : ℕ) → r .reply ≡ No n → r .device ≡ d
+
+-- the same of a read of 43, room for a frame being lent
+pub record PortRead (d : Device) (r : Outcome) : Type 0 where
+  pub serves : (before : List ℕ) → frameRoom ≤ length before → Serves (events.read (length before) fifos) d before r before

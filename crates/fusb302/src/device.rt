@@ -1,0 +1,318 @@
+// The device: registers, both FIFOs, interrupts, and the request that is open.
+use crate::bits::HARDRST;
+use crate::bits::I_HARDRST;
+use crate::bits::INT_MASK;
+use crate::bits::Place;
+use crate::bits::has;
+use crate::bits::place_of;
+use crate::fifo::Fifo;
+use crate::queue::Queue;
+ghost use mathlib.Core.Path.{_≡_};
+ghost use mathlib.Core.Bool.{not, _||_};
+ghost use Prim.Native.Nat.{_+_, _-_, _≤_};
+ghost use lib.Dec.{eqb};
+ghost use lib.ListN.{length, getD};
+ghost use Rattle.machine.specs.Status.{txRoom, rxRoom, flag, lastIs, status1aOf, status0Of, status1Of, shown, clearedAt, intLow};
+ghost use Rattle.machine.specs.Events.{read, hardReset};
+ghost use Rattle.fusb302.specs.View.{view, intsOf, Arranged, Asks, PoweredUp};
+ghost use Rattle.fusb302.specs.Serves.{Serves, PortRead};
+
+pub struct Status {
+    status0a: u8,
+    crc_chk: bool,
+    kind: u8,
+}
+
+pub struct Ints {
+    a: u8,
+    b: u8,
+    main: u8,
+}
+
+// The open request, if `active`: what its start latched, whether its Soft_Reset is in flight, and how far it has come.
+pub struct Request {
+    active: bool,
+    switches1: u8,
+    retries: u8,
+    soft: bool,
+    hard: bool,
+    resetting: bool,
+    sent: u8,
+    waited: u16,
+}
+
+pub struct Device {
+    cells: [u8; 15],
+    tx: Queue,
+    rx: Fifo,
+    status: Status,
+    ints: Ints,
+    request: Request,
+}
+
+pub enum Reply {
+    Done,
+    Value(u8),
+    No(u8),
+}
+
+// What an event gives back: the device, its reply, and how many of the lent symbols it sent.
+pub struct Outcome {
+    pub device: Device,
+    pub reply: Reply,
+    pub count: usize,
+}
+
+// A mask, or no bit.
+fn flag(mask: u8, on: bool) -> u8
+    ensures { λ r. ⌜ (r ≡ flag mask on) × (r ≤ mask) ⌝ }
+{
+    if on { mask } else { 0 }
+}
+
+// Either FIFO full.
+fn either_full(rx: usize, tx: usize) -> bool
+    ensures { λ r. ⌜ r ≡ (eqb rx rxRoom || eqb tx txRoom) ⌝ }
+{
+    if rx == Fifo::CAPACITY {
+        return true;
+    }
+    tx == Queue::CAPACITY
+}
+
+impl Ints {
+    fn cleared(mut self, address: u8) -> Ints
+        ensures { λ r. ⌜ intsOf r ≡ clearedAt address (intsOf self) ⌝ }
+    {
+        match address {
+            0x3E => self.a = 0,
+            0x3F => self.b = 0,
+            0x42 => self.main = 0,
+            _ => (),
+        }
+        self
+    }
+}
+
+impl Device {
+    // 01, 'Registers': the reset values of 02 to 10.
+    const RESETS: [u8; 15] = [
+        0x03,
+        0x20,
+        0x31,
+        0x60,
+        0x24,
+        0x00,
+        0x02,
+        0x06,
+        0x00,
+        0x01,
+        0x00,
+        0x0F,
+        0x00,
+        0x00,
+        0x00,
+    ];
+
+    pub fn power_up() -> Device
+        ensures { λ r. ⌜ PoweredUp r ⌝ }
+    {
+        Device {
+            cells: Device::RESETS,
+            tx: Queue::empty(),
+            rx: Fifo::empty(),
+            status: Status {
+                status0a: 0,
+                crc_chk: false,
+                kind: 5,
+            },
+            ints: Ints {
+                a: 0,
+                b: 0,
+                main: 0,
+            },
+            request: Request {
+                active: false,
+                switches1: 0,
+                retries: 0,
+                soft: false,
+                hard: false,
+                resetting: false,
+                sent: 0,
+                waited: 0,
+            },
+        }
+    }
+
+    // ---- outcomes
+
+    fn refuse(self, number: u8) -> Outcome
+        ensures { λ r. ⌜ r ≡ record { device = self; reply = Reply.No number; count = 0 } ⌝ }
+    {
+        Outcome {
+            device: self,
+            reply: Reply::No(number),
+            count: 0,
+        }
+    }
+
+    fn give(self, octet: u8) -> Outcome
+        ensures { λ r. ⌜ r ≡ record { device = self; reply = Reply.Value octet; count = 0 } ⌝ }
+    {
+        Outcome {
+            device: self,
+            reply: Reply::Value(octet),
+            count: 0,
+        }
+    }
+
+    fn done(self, count: usize) -> Outcome
+        ensures { λ r. ⌜ r ≡ record { device = self; reply = Reply.Done; count = count } ⌝ }
+    {
+        Outcome {
+            device: self,
+            reply: Reply::Done,
+            count,
+        }
+    }
+
+    // ---- status
+
+    fn status1a(self) -> u8
+        ensures { λ r. ⌜ r ≡ status1aOf (view self) ⌝ }
+    {
+        let kind = self.status.kind;
+        match kind {
+            4 => 0x04,
+            3 => 0x02,
+            0 => 0x01,
+            _ => 0,
+        }
+    }
+
+    fn status0(self) -> u8
+        requires { ⌜ Arranged self ⌝ }
+        ensures { λ r. ⌜ r ≡ status0Of (view self) ⌝ }
+    {
+        let full = either_full(self.rx.len, self.tx.len);
+        flag(0x10, self.status.crc_chk) + flag(0x08, full)
+    }
+
+    // SOP'' 80, SOP' 40
+    fn rx_kind(self) -> u8
+        ensures { λ r. ⌜ (r ≡ flag 0x80 (lastIs (view self) 2) + flag 0x40 (lastIs (view self) 1)) × (r ≤ 0xC0) ⌝ }
+    {
+        let kind = self.status.kind;
+        match kind {
+            2 => 0x80,
+            1 => 0x40,
+            _ => 0,
+        }
+    }
+
+    fn status1(self) -> u8
+        requires { ⌜ Arranged self ⌝ }
+        ensures { λ r. ⌜ r ≡ status1Of (view self) ⌝ }
+    {
+        let rx = self.rx.len;
+        let tx = self.tx.len;
+        self.rx_kind()
+            + flag(0x20, rx == 0)
+            + flag(0x10, rx == Fifo::CAPACITY)
+            + flag(0x08, tx == 0)
+            + flag(0x04, tx == Queue::CAPACITY)
+    }
+
+    fn shown(self, address: u8) -> u8
+        requires { ⌜ Arranged self × (0x3C ≤ address) × (address ≤ 0x42) ⌝ }
+        ensures { λ r. ⌜ r ≡ getD (shown (view self)) (address - 0x3C) 0 ⌝ }
+    {
+        match address {
+            0x3C => self.status.status0a,
+            0x3D => self.status1a(),
+            0x3E => self.ints.a,
+            0x3F => self.ints.b,
+            0x40 => self.status0(),
+            0x41 => self.status1(),
+            _ => self.ints.main,
+        }
+    }
+
+    // The level of INT_N: low (false) exactly when interrupts are on and an unmasked one is set.
+    pub fn int_n(self) -> bool
+        requires { ⌜ Asks self ⌝ }
+        ensures { λ r. ⌜ r ≡ not (intLow (view self)) ⌝ }
+    {
+        let cells = self.cells;
+        if has(INT_MASK, cells[4]) {
+            return true;
+        }
+        if has(!cells[12], self.ints.a) {
+            return false;
+        }
+        if has(!cells[13], self.ints.b) {
+            return false;
+        }
+        !has(!cells[8], self.ints.main)
+    }
+
+    // ---- reads
+
+    fn read_port(mut self) -> Outcome
+        requires { ⌜ Asks self ⌝ }
+        ensures { λ r. ⌜ PortRead self r ⌝ }
+    {
+        let rx = self.rx;
+        if rx.len == 0 {
+            return self.refuse(8);
+        }
+        let octet = rx.first();
+        let rest = rx.rest();
+        self.rx = rest;
+        self.give(octet)
+    }
+
+    pub fn read(mut self, address: u8, symbols: &mut [u8]) -> Outcome
+        requires { ⌜ Asks self ⌝ }
+        ensures { λ r. ⌜ Serves (read (length (now (symbols .entry))) address) self (now (symbols .entry)) r (now (symbols .exit)) ⌝ }
+    {
+        if symbols.len() < 73 {
+            return self.refuse(12);
+        }
+        match place_of(address) {
+            Place::Id => self.give(0x91),
+            Place::Stored => {
+                let cells = self.cells;
+                let at = (address - 2) as usize;
+                self.give(cells[at])
+            }
+            Place::Shown => {
+                let octet = self.shown(address);
+                let ints = self.ints;
+                let after = ints.cleared(address);
+                self.ints = after;
+                self.give(octet)
+            }
+            Place::Port => self.read_port(),
+            Place::Nowhere => self.refuse(1),
+        }
+    }
+
+    // ---- a Hard Reset heard
+
+    pub fn hear_hard_reset(mut self, symbols: &mut [u8]) -> Outcome
+        requires { ⌜ Asks self ⌝ }
+        ensures { λ r. ⌜ Serves (hardReset (length (now (symbols .entry)))) self (now (symbols .entry)) r (now (symbols .exit)) ⌝ }
+    {
+        if symbols.len() < 73 {
+            return self.refuse(12);
+        }
+        self.tx = Queue::empty();
+        self.request.active = false;
+        let shown = self.status.status0a | HARDRST;
+        self.status.status0a = shown;
+        let raised = self.ints.a | I_HARDRST;
+        self.ints.a = raised;
+        self.done(0)
+    }
+}

@@ -1,0 +1,6 @@
+// The FUSB302B, driven by what firmware can touch: code proved to be the machine.
+mod bits;
+pub mod device;
+mod fifo;
+mod header;
+mod queue;
