@@ -1,13 +1,12 @@
 -- Reads and a Hard Reset heard: the answer of each way out.
 -- Assumes nothing.
 use mathlib.Core.Path.{_≡_, refl, sym, ap, _∙_, subst}
-use mathlib.Core.Bool.{Bool, true, false, not, cond, _&&_, _||_}
-use mathlib.Core.List.{List, [], _∷_, _++_}
-use mathlib.Core.Option.{none, some}
+use mathlib.Core.Bool.{true, false, cond, _&&_}
+use mathlib.Core.List.{List, []}
 use Prim.Native.Nat.{ℕ, _-_, _<_, _≤_}
 use native.Mathlib.Omega.{arith}
 use borrow.Author.Tests.{lt-ltb, le-ltb, le-leb, lt-leb, eq-eqb, ne-eqb}
-use lib.Dec.{ltb, leb, eqb}
+use lib.Dec.{leb, eqb}
 use lib.ListN.{length, drop, getD}
 use Rattle.line.specs.Frame.{joined}
 use Rattle.line.specs.Write.{frameRoom}
@@ -17,7 +16,6 @@ use Rattle.machine.specs.State.{powerUp, withInts, withRx}
 use Rattle.machine.specs.Good.{Good}
 use Rattle.machine.specs.Requests.{hardResetHeard}
 use Rattle.machine.specs.Events.{read, hardReset, value}
-use Rattle.machine.specs.Refusals.{refusal}
 use Rattle.machine.specs.Step.{accepted, replyTo, readValue, afterRead}
 use Rattle.machine.proofs.Keeping.{power-up-good}
 use Rattle.machine.proofs.Checking.{read-checks, reset-checks}
@@ -28,7 +26,6 @@ use Rattle.fusb302.specs.declared.fifo.Fifo.{Fifo}
 use Rattle.fusb302.specs.declared.device.Device.{Device}
 use Rattle.fusb302.specs.declared.device.Ints.{Ints}
 use Rattle.fusb302.specs.declared.device.Reply.the-variants.{Done, Value, No}
-use Rattle.fusb302.specs.declared.device.Outcome.{Outcome}
 use Rattle.fusb302.specs.Places.{Placed}
 use Rattle.fusb302.specs.Queued.{queued}
 use Rattle.fusb302.specs.Held.{held, Sound}

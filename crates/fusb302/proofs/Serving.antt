@@ -1,17 +1,11 @@
 -- What a method owes, by whether its event is refused; and what each kind of event is in the machine.
 -- Assumes nothing.
 use mathlib.Core.Path.{_≡_, refl, sym, ap, _∙_, subst}
-use mathlib.Core.Bool.{Bool, true, false, not, cond, _&&_}
-use mathlib.Core.List.{List, [], _∷_, _++_}
-use mathlib.Core.Option.{Option, none, some}
-use Prim.Native.Nat.{ℕ, _-_, _<_, _≤_}
-use native.Mathlib.Omega.{arith}
-use borrow.Author.Tests.{lt-ltb, le-ltb}
-use lib.Dec.{ltb}
+use mathlib.Core.List.{List}
+use mathlib.Core.Option.{none, some}
+use Prim.Native.Nat.{ℕ}
 use lib.ListN.{length}
 use Rattle.line.specs.Frame.{joined}
-use Rattle.line.specs.Write.{frameRoom}
-use Rattle.machine.specs.State.{State}
 use Rattle.machine.specs.Events.{Event, Fits}
 use Rattle.machine.specs.Refusals.{refusal}
 use Rattle.machine.specs.Step.{accepted, replyTo, resultOf, step}
@@ -19,7 +13,7 @@ use Rattle.machine.specs.Good.{Good}
 use Rattle.machine.proofs.Refusing.{accepted-reply}
 use Rattle.machine.proofs.Staying.{stays-good}
 use Rattle.fusb302.specs.declared.device.Device.{Device}
-use Rattle.fusb302.specs.declared.device.Reply.the-variants.{Done, Value, No}
+use Rattle.fusb302.specs.declared.device.Reply.the-variants.{No}
 use Rattle.fusb302.specs.declared.device.Outcome.{Outcome}
 use Rattle.fusb302.specs.View.{view, Arranged, Asks}
 use Rattle.fusb302.specs.Serves.{replied, over, Serves}

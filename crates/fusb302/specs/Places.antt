@@ -1,7 +1,7 @@
 -- What stands at an address, as the machine has it.
 -- Assumes nothing.
 use mathlib.Core.Path.{_≡_}
-use mathlib.Core.Bool.{true, false}
+use mathlib.Core.Bool.{false}
 use Prim.Native.Nat.{ℕ, _≤_}
 use Rattle.machine.specs.Registers.{deviceId, status0a, interrupt, fifos, exists}
 use Rattle.fusb302.specs.declared.bits.Place.{Place}

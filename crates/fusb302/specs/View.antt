@@ -2,12 +2,9 @@
 -- Assumes nothing.
 use mathlib.Core.Path.{_≡_, refl}
 use mathlib.Core.Bool.{Bool, true, false, cond}
-use mathlib.Core.List.{List}
 use mathlib.Core.Option.{Option, none, some}
 use Prim.Native.Nat.{ℕ}
-use lib.Dec.{ltb}
 use lib.ListN.{length}
-use Rattle.line.specs.Kind.{sopKinds}
 use Rattle.machine.specs.State as machine
 use Rattle.machine.specs.State.{Phase, message, softReset, State, powerUp}
 use Rattle.machine.specs.Good.{Good}

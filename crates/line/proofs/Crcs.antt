@@ -1,19 +1,18 @@
 -- Octets with their CRC: when it is right, and the octets without it.
 -- Assumes nothing.
-use mathlib.Core.Path.{_≡_, sym, ap, _∙_}
-use mathlib.Core.Bool.{true}
+use mathlib.Core.Path.{_≡_, refl, sym, ap, ap₂, _∙_}
+use mathlib.Core.Bool.{true, false}
 use mathlib.Core.List.{List, [], _∷_, _++_}
 use Prim.Native.Nat.{ℕ, zero, suc, _+_, _*_, _-_, _/_, _%_, _<_, _≤_}
-use native.Mathlib.Nat.{div-div-eq-div-mul, mod-eq-of-lt, mod-lt}
+use native.Mathlib.Nat.{add-zero, div-div-eq-div-mul, mod-eq-of-lt, mod-lt}
 use native.Mathlib.Omega.{arith}
-use borrow.Author.Tests.{eq-eqb, eqb-true}
+use borrow.Author.Tests.{eq-eqb, eqb-true, le-leb, lt-leb}
 use lib.Arith.{digits-div, digits-mod}
-use lib.Dec.{lit<}
-use lib.ListN.{length, take, drop, length-append, length-drop, take-append-drop}
-use lib.Seq.{take-at, drop-at, length-take-le}
-use Rattle.line.specs.Crc.{crcOf, fourOctets, withCrc}
+use lib.Dec.{eqb, lit<}
+use lib.ListN.{length, take, drop, getD, length-append, length-drop, take-append-drop}
+use lib.Seq.{getD-drop, take-at, drop-at, length-take-le}
+use Rattle.line.specs.Crc.{crcOf, fourOctets, withCrc, number, crcRight}
 use Rattle.line.specs.Frame.{Octets}
-use Rattle.line.specs.Read.{number, crcRight}
 
 -- ---- lists of octets
 
@@ -114,14 +113,27 @@ module _ (l : List ℕ) where
   crc-right =
       let n = number-back (crcOf l) crc-lt in
       let d = drop-at l (fourOctets (crcOf l)) _ seam in
-      eq-eqb _ _ (ap crcOf payload-back ∙ sym (ap number d ∙ n))
+      let long : 4 ≤ length (l ++ fourOctets (crcOf l)) = omega (arith, length-crc l) in
+      rw (le-leb 4 _ long) (eq-eqb _ _ (ap crcOf payload-back ∙ sym (ap number d ∙ n)))
 
 -- octets whose CRC is right are some octets with their CRC
 pub crc-there : (m : List ℕ) → Octets m → 4 ≤ length m → crcRight m ≡ true → m ≡ withCrc (payload m)
 unfolding crcRight withCrc payload
 crc-there m o h e =
     let n = length m - 4 in
-    let right = eqb-true (crcOf (take n m)) (number (drop n m)) e in
+    let right = eqb-true (crcOf (take n m)) (number (drop n m)) (rw (le-leb 4 (length m) h) at e) in
     let k : length (drop n m) ≡ 4 = length-drop n m ∙ omega arith in
     let four = number-forth (drop n m) k (octets-drop n m o) in
     sym (take-append-drop n m) ∙ ap (λ (x : List ℕ). take n m ++ x) (sym four ∙ ap fourOctets (sym right))
+
+-- ---- the code's way to it
+
+pub crc-few : (l : List ℕ) → length l < 4 → false ≡ crcRight l
+unfolding crcRight
+crc-few l h = rw (lt-leb 4 (length l) h) refl
+
+pub crc-is : (l : List ℕ) (c d : ℕ) → 4 ≤ length l → c ≡ crcOf (take (length l - 4) l)
+    → d ≡ getD l (length l - 4) 0 + 256 * getD l (length l - 4 + 1) 0 + 65536 * getD l (length l - 4 + 2) 0 + 16777216 * getD l (length l - 4 + 3) 0
+    → eqb c d ≡ crcRight l
+unfolding crcRight number
+crc-is l c d h e f = rw (le-leb 4 (length l) h) (ap₂ eqb e (f ∙ sym (simp (getD-drop, add-zero))))

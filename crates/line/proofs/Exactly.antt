@@ -15,7 +15,8 @@ use Rattle.line.proofs.Shapes.{sized-of, length-drawn, shape-back, one-
 use Rattle.line.proofs.Crcs.{length-crc, octets-crc, payload, length-payload, octets-payload, payload-back, crc-right, crc-there}
 use Rattle.line.specs.Kind.{kinds, sopKinds, carries}
 use Rattle.line.specs.Frame.{Frame, Whole, Shape, Shaped, drawn, sealed, symbolsOf}
-use Rattle.line.specs.Read.{Look, found, short, misfit, crcRight, First, frame, wrongCrc, tooShort, noFrame, checked, firstOf, shapeAt, first}
+use Rattle.line.specs.Read.{Look, found, short, misfit, First, frame, wrongCrc, tooShort, noFrame, checked, firstOf, shapeAt, first}
+use Rattle.line.specs.Crc.{crcRight}
 use Rattle.line.specs.Place.{Begins, Cut, Longest, Holds, Spoilt}
 use Rattle.line.specs.Theorems.{ReadsBack, LeavesRest, FrameExactly, WrongCrcExactly, TooShortExactly, NoFrameExactly}
 

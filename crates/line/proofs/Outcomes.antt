@@ -9,7 +9,7 @@ use Rattle.line.specs.declared.write.Written.{Written}
 use Rattle.line.specs.declared.write.Written.the-variants.{Sent, SmallBuffer as SmallRoom, UnknownKind, WrongLength}
 use Rattle.line.specs.Write.{Wrote, sent, written}
 use Rattle.line.specs.Reader.{Said, read, no, noAt, said}
-use Rattle.line.specs.Theorems.{OneMeaningWritten, OneMeaningSaid, OneCrc, OneRest, OneWriting, OneReading}
+use Rattle.line.specs.Theorems.{OneMeaningWritten, OneMeaningSaid, OneCrc, OneRight, OneRest, OneWriting, OneReading}
 
 -- ---- the answer of a meaning
 
@@ -47,6 +47,9 @@ one-meaning-said r s e = sym (answer-back r) ∙ ap answerOf e ∙ answer-back s
 
 pub one-crc : OneCrc
 one-crc l r s p q = p ∙ sym q
+
+pub one-right : OneRight
+one-right l r s p q = p ∙ sym q
 
 pub one-rest : OneRest
 one-rest line at r s p q = p ∙ sym q

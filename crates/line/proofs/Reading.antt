@@ -4,42 +4,20 @@ use mathlib.Core.Path.{_≡_, refl, sym, ap, ap₂, _∙_, subst}
 use mathlib.Core.Bool.{Bool, true, false, cond}
 use mathlib.Core.List.{List, [], _∷_, append-nil}
 use Prim.Native.Nat.{ℕ, zero, suc, _+_, _*_, _-_, _/_, _<_, _≤_}
-use native.Mathlib.Nat.{add-zero}
 use native.Mathlib.Numerals.{add-one}
 use native.Mathlib.Omega.{arith}
 use borrow.Author.Tests.{lt-ltb, le-ltb, eq-eqb, ne-eqb}
-use lib.Dec.{eqb}
 use lib.ListN.{length, take, drop, getD, drop-of-length-le, length-drop, length-append}
-use lib.Seq.{drop-cons, getD-drop, getD-take, take-all, take-at, length-take-le, sets}
+use lib.Seq.{drop-cons, getD-take, take-all, take-at, length-take-le, sets}
 use Rattle.line.specs.declared.read.Answer.{Answer}
 use Rattle.line.specs.declared.read.Answer.the-variants.{Frame, SmallBuffer, NoFrame, TooShort, WrongCrc}
 use Rattle.line.specs.declared.sets.Start.{Start}
 use Rattle.line.specs.declared.sets.Start.the-variants.{Set, Short, Misfit}
 use Rattle.line.specs.Symbol.{nibbleOf, isNibble, octetsOf}
 use Rattle.line.specs.Kind.{setOf, sopKinds}
-use Rattle.line.specs.Crc.{crcOf}
+use Rattle.line.specs.Crc.{crcRight}
 use Rattle.line.specs.Frame.{Shape, drawn}
-use Rattle.line.specs.Read.{
-  Look,
-  found,
-  short,
-  misfit,
-  setAt,
-  nibbleRun,
-  mayEnd,
-  endOr,
-  bodyAt,
-  withSet,
-  afterSet,
-  shapeAt,
-  number,
-  crcRight,
-  frame,
-  wrongCrc,
-  checked,
-  firstOf,
-  first,
-}
+use Rattle.line.specs.Read.{Look, found, short, misfit, setAt, nibbleRun, mayEnd, endOr, bodyAt, withSet, afterSet, shapeAt, frame, wrongCrc, checked, firstOf, first}
 use Rattle.line.specs.Start.{startOf}
 use Rattle.line.specs.Reader.{octetRoom, read, saysOf, filled, Tells, Reads}
 use Rattle.line.proofs.Nibbles.{nibbles-at}
@@ -126,12 +104,6 @@ pairs-length zero (s ∷ l) e = absurd (omega arith)
 pairs-length (suc n) [] e = absurd (omega arith)
 pairs-length (suc n) (s ∷ []) e = absurd (omega arith)
 pairs-length (suc n) (s ∷ t ∷ l) e = ap suc (pairs-length n l (omega arith))
-
-pub crc-is : (l : List ℕ) (c d : ℕ) → c ≡ crcOf (take (length l - 4) l)
-    → d ≡ getD l (length l - 4) 0 + 256 * getD l (length l - 4 + 1) 0 + 65536 * getD l (length l - 4 + 2) 0 + 16777216 * getD l (length l - 4 + 3) 0
-    → eqb c d ≡ crcRight l
-unfolding crcRight number
-crc-is l c d e f = ap₂ eqb e (f ∙ sym (simp (getD-drop, add-zero)))
 
 module _ (body : List ℕ) (n : ℕ) (h : 2 * n ≤ nibbleRun 68 body) where
   pub few-pairs : n ≤ 34

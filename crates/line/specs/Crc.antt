@@ -1,8 +1,11 @@
 -- CRC-32, bit by bit: reflected polynomial EDB88320h, start FFFFFFFFh, final complement (01, 'Line code (PD)').
 -- Assumes nothing.
+use mathlib.Core.Bool.{Bool, _&&_}
 use mathlib.Core.List.{List, [], _∷_, _++_}
-use Prim.Native.Nat.{ℕ, zero, suc, _-_, _/_, _%_}
+use Prim.Native.Nat.{ℕ, zero, suc, _+_, _*_, _-_, _/_, _%_}
 use lib.Bits.{bitXor}
+use lib.Dec.{leb, eqb}
+use lib.ListN.{length, take, drop, getD}
 
 -- the reflected polynomial where the bit that leaves is 1, and nothing where it is 0
 unfoldable pub poly : ℕ → ℕ
@@ -37,3 +40,11 @@ fourOctets n = n % 256 ∷ n / 256 % 256 ∷ n / 65536 % 256 ∷ n / 16777216 % 
 -- octets with their CRC
 unfoldable pub withCrc : List ℕ → List ℕ
 withCrc l = l ++ fourOctets (crcOf l)
+
+-- the number of four octets, the least significant first
+unfoldable pub number : List ℕ → ℕ
+number l = getD l 0 0 + 256 * getD l 1 0 + 65536 * getD l 2 0 + 16777216 * getD l 3 0
+
+-- the last four octets are the CRC of the others
+unfoldable pub crcRight : List ℕ → Bool
+crcRight m = leb 4 (length m) && eqb (crcOf (take (length m - 4) m)) (number (drop (length m - 4) m))

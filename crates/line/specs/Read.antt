@@ -3,12 +3,12 @@
 use mathlib.Core.Bool.{Bool, cond, _&&_}
 use mathlib.Core.List.{List, [], _∷_}
 use mathlib.Core.Option.{Option, none, some}
-use Prim.Native.Nat.{ℕ, zero, suc, _+_, _*_, _-_, _%_, max}
+use Prim.Native.Nat.{ℕ, zero, suc, _+_, _*_, _%_, max}
 use lib.Dec.{leb, eqb}
 use lib.ListN.{length, take, drop, getD}
 use Rattle.line.specs.Symbol.{eop, isNibble, octetsOf}
 use Rattle.line.specs.Kind.{orderedSets, carries}
-use Rattle.line.specs.Crc.{crcOf}
+use Rattle.line.specs.Crc.{crcRight}
 use Rattle.line.specs.Frame.{Shape}
 
 -- what is looked for is there; or so many symbols fit and the record ends; or so many fit and the next does not
@@ -79,13 +79,6 @@ unfoldable pub shapeAt : List ℕ → Look Shape
 shapeAt l = afterSet (setAt l) l
 
 -- ---- the first frame
-
--- the number of four octets, the least significant first
-unfoldable pub number : List ℕ → ℕ
-number l = getD l 0 0 + 256 * getD l 1 0 + 65536 * getD l 2 0 + 16777216 * getD l 3 0
-
-unfoldable pub crcRight : List ℕ → Bool
-crcRight m = eqb (crcOf (take (length m - 4) m)) (number (drop (length m - 4) m))
 
 -- the frame's kind and its octets with CRC; or the place at which there is none
 pub data First : Type 0 where

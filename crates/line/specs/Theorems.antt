@@ -1,13 +1,14 @@
 -- What holds of the line code; proofs/ has the proof of each statement.
 -- Assumes nothing.
 use mathlib.Core.Path.{_≡_}
+use mathlib.Core.Bool.{Bool}
 use mathlib.Core.List.{List, [], _++_}
 use mathlib.Core.Logic.{_↔_, _⊎_}
 use Prim.Native.Nat.{ℕ, _≤_}
 use lib.ListN.{length, drop}
 use Rattle.line.specs.declared.write.Written.{Written}
 use Rattle.line.specs.declared.read.Answer.{Answer}
-use Rattle.line.specs.Crc.{crcOf}
+use Rattle.line.specs.Crc.{crcOf, crcRight}
 use Rattle.line.specs.Frame.{Frame, Whole, AllWhole, Shape, sealed, symbolsOf, joined}
 use Rattle.line.specs.Write.{frameRoom, written, Writes}
 use Rattle.line.specs.Read.{frame, wrongCrc, tooShort, noFrame, first}
@@ -65,6 +66,9 @@ OneMeaningSaid = (r s : Answer) → said r ≡ said s → r ≡ s
 
 abbrev pub OneCrc : Type 0
 OneCrc = (l : List ℕ) (r s : ℕ) → r ≡ crcOf l → s ≡ crcOf l → r ≡ s
+
+abbrev pub OneRight : Type 0
+OneRight = (l : List ℕ) (r s : Bool) → r ≡ crcRight l → s ≡ crcRight l → r ≡ s
 
 abbrev pub OneRest : Type 0
 OneRest = (line : List ℕ) (at : ℕ) (r s : List ℕ) → r ≡ drop at line → s ≡ drop at line → r ≡ s

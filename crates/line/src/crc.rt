@@ -1,6 +1,7 @@
 // CRC-32, bit by bit (01, 'Line code (PD)').
 ghost use mathlib.Core.Path.{_≡_};
-ghost use Rattle.line.specs.Crc.{crcBit, crcOctet, crcOf, fourOctets};
+ghost use Prim.Native.Nat.{_+_, _*_};
+ghost use Rattle.line.specs.Crc.{crcBit, crcOctet, crcOf, fourOctets, crcRight};
 
 const POLYNOMIAL: u32 = 0xEDB8_8320;
 
@@ -48,4 +49,23 @@ pub(crate) fn four_octets(n: u32) -> [u8; 4]
         ((n >> 16) & 0xFF) as u8,
         ((n >> 24) & 0xFF) as u8,
     ]
+}
+
+// The number of four octets, the least significant first.
+fn joined(a: u8, b: u8, c: u8, d: u8) -> u32
+    ensures { λ r. ⌜ r ≡ a + 256 * b + 65536 * c + 16777216 * d ⌝ }
+{
+    a as u32 + 256 * (b as u32) + 65536 * (c as u32) + 16777216 * (d as u32)
+}
+
+// Whether the last four octets are the CRC of the others; fewer than four have none.
+pub fn right(octets: &[u8]) -> bool
+    ensures { λ r. ⌜ r ≡ crcRight (now (octets .entry)) ⌝ }
+{
+    if octets.len() < 4 {
+        return false;
+    }
+    let n = octets.len() - 4;
+    let c = crc(&octets[..n]);
+    c == joined(octets[n], octets[n + 1], octets[n + 2], octets[n + 3])
 }

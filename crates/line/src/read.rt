@@ -1,5 +1,5 @@
 // The line reader: a record and a cursor by value (01, 'Line reader').
-use crate::crc::crc;
+use crate::crc::right;
 use crate::sets::SOP_KINDS;
 use crate::sets::Start;
 use crate::sets::set_at;
@@ -11,7 +11,7 @@ ghost use lib.ListN.{length, take, drop};
 ghost use lib.Seq.{sets};
 ghost use Rattle.line.specs.Symbol.{octetsOf};
 ghost use Rattle.line.specs.Kind.{sopKinds};
-ghost use Rattle.line.specs.Read.{nibbleRun, mayEnd, crcRight, bodyAt, withSet, checked, firstOf};
+ghost use Rattle.line.specs.Read.{nibbleRun, mayEnd, bodyAt, withSet, checked, firstOf};
 ghost use Rattle.line.specs.Reader.{octetRoom, Tells, Reads};
 
 // A place in a record.
@@ -97,23 +97,6 @@ fn copy(from: &[u8], n: usize, to: &mut [u8])
         to[i] = from[i];
         i += 1;
     }
-}
-
-// The number of four octets, the least significant first.
-fn joined(a: u8, b: u8, c: u8, d: u8) -> u32
-    ensures { λ r. ⌜ r ≡ a + 256 * b + 65536 * c + 16777216 * d ⌝ }
-{
-    a as u32 + 256 * (b as u32) + 65536 * (c as u32) + 16777216 * (d as u32)
-}
-
-// Whether the last four octets are the CRC of the others.
-fn right(octets: &[u8]) -> bool
-    requires { ⌜ 4 ≤ length (now octets) ⌝ }
-    ensures { λ r. ⌜ r ≡ crcRight (now (octets .entry)) ⌝ }
-{
-    let n = octets.len() - 4;
-    let c = crc(&octets[..n]);
-    c == joined(octets[n], octets[n + 1], octets[n + 2], octets[n + 3])
 }
 
 // A message whose shape is whole, by its CRC. The octets wait in an array of their own, so that a wrong CRC leaves the lent ones.

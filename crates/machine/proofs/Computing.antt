@@ -2,10 +2,10 @@
 -- Assumes nothing.
 use Rattle.line.specs.Symbol.{symbolOf, placeOf, nibbleOf, isNibble, spelt as line-spelt, octetsOf}
 use Rattle.line.specs.Kind.{setOf, carries}
-use Rattle.line.specs.Crc.{poly, crcBit, crcBits, crcOctet, crcFrom, crcOf, fourOctets, withCrc}
+use Rattle.line.specs.Crc.{poly, crcBit, crcBits, crcOctet, crcFrom, crcOf, fourOctets, withCrc, number, crcRight}
 use Rattle.line.specs.Frame.{drawn, sealed, symbolsOf, joined}
 use Rattle.line.specs.Refusal.{firstNo}
-use Rattle.line.specs.Read.{common, kindFrom, furthest, setOr, setAt, nibbleRun, mayEnd, endOr, bodyAt, withSet, afterSet, shapeAt, number, crcRight, checked, firstOf, first}
+use Rattle.line.specs.Read.{common, kindFrom, furthest, setOr, setAt, nibbleRun, mayEnd, endOr, bodyAt, withSet, afterSet, shapeAt, checked, firstOf, first}
 use Rattle.line.specs.Reader.{saysOf}
 use Rattle.machine.specs.Registers.{cell, stored, isStored, readOnly, exists, has}
 use Rattle.machine.specs.Status.{status1aOf, status0Of, status1Of, clearedAt}

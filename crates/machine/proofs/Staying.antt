@@ -13,7 +13,7 @@ use lib.Dec.{ltb, leb, eqb, lit<}
 use lib.ListN.{length, drop, length-append, length-drop}
 use Rattle.line.specs.Kind.{sopKinds}
 use Rattle.line.specs.Frame.{Frame, Octets, Whole, message, alone, AllWhole}
-use Rattle.line.specs.Read.{crcRight}
+use Rattle.line.specs.Crc.{crcRight}
 use Rattle.line.specs.Refusal.{firstNo}
 use Rattle.machine.specs.Registers.{
   storedBits,

@@ -11,7 +11,7 @@ use lib.Bits.{bitAnd}
 use lib.Dec.{ltb, eqb}
 use lib.ListN.{getD}
 use Rattle.line.specs.Frame.{Frame}
-use Rattle.line.specs.Read.{crcRight}
+use Rattle.line.specs.Crc.{crcRight}
 use Rattle.line.specs.Refusal.{firstNo}
 use Rattle.line.specs.Write.{frameRoom}
 use Rattle.machine.specs.Registers.{storedBits, cell, switches1, has}

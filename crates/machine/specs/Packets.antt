@@ -7,7 +7,7 @@ use Prim.Native.Nat.{ℕ, suc, _+_}
 use lib.Dec.{leb, eqb}
 use lib.ListN.{length, getD}
 use Rattle.line.specs.Frame.{Frame}
-use Rattle.line.specs.Read.{crcRight}
+use Rattle.line.specs.Crc.{crcRight}
 use Rattle.machine.specs.Registers.{
   switches1,
   control0,

@@ -9,7 +9,7 @@ use Prim.Native.Nat.{ℕ, suc, _+_, _<_, _≤_}
 use lib.ListN.{length, replicate}
 use Rattle.line.specs.Kind.{sopKinds, setOf}
 use Rattle.line.specs.Frame.{Frame, Whole, AllWhole, joined}
-use Rattle.line.specs.Read.{crcRight}
+use Rattle.line.specs.Crc.{crcRight}
 use Rattle.line.specs.Refusal.{Row}
 use Rattle.line.specs.Write.{frameRoom}
 use Rattle.machine.specs.Registers.{

@@ -3,15 +3,18 @@ use borrow.Author.Needs.{needs}
 use mathlib.Core.Path.{sym}
 use native.Mathlib.Omega.{arith}
 use lib.Seq.{length-take-le}
-use Rattle.line.proofs.Reading.{crc-is}
-use Rattle.line.proofs.read.right.Statement.{statement}
-use Rattle.line.proofs.read.right.Tie as tie
+use Rattle.line.proofs.Crcs.{crc-few, crc-is}
+use Rattle.line.proofs.crc.right.Statement.{statement}
+use Rattle.line.proofs.crc.right.Tie as tie
+
+returns : tie.Need-returns
+returns c = crc-few _ (c .if1 .taken)
 
 sub-n : tie.Need-sub-n
 sub-n c = search needs
 
 slice-aggregate-crc : tie.Need-slice-aggregate-crc
-slice-aggregate-crc c = sym (length-take-le _ (c .before .before .args .octets .now) (omega arith))
+slice-aggregate-crc c = sym (length-take-le _ (c .before .before .before .args .octets .now) (omega arith))
 
 crc-requires : tie.Need-crc-requires
 crc-requires c κs = search needs
@@ -40,13 +43,14 @@ shared-slice-read-joined-4 c = search needs
 joined-requires : tie.Need-joined-requires
 joined-requires c κs = search needs
 
-returns : tie.Need-returns
-returns c = crc-is (c .before .before .before .before .before .before .before .before .args .octets .now) _ _ (c .before .before .before .before .before .crc .ensures) (c .joined .ensures)
+returns-2 : tie.Need-returns-2
+returns-2 c = crc-is (c .before .before .before .before .before .before .before .before .before .args .octets .now) _ _ (c .before .before .before .before .before .before .before .if1 .left) (c .before .before .before .before .before .crc .ensures) (c .joined .ensures)
 
 pub right-spec : {M : Type 1} → statement M
 right-spec =
     tie.close
     (tie.spec
+    returns
     sub-n
     slice-aggregate-crc
     crc-requires
@@ -58,4 +62,4 @@ right-spec =
     add-joined-3
     shared-slice-read-joined-4
     joined-requires
-    returns)
+    returns-2)
