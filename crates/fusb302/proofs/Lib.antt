@@ -5,3 +5,5 @@ pub mod Storing
 pub mod Serving
 pub mod Showing
 pub mod Answering
+pub mod Sending
+pub mod Waiting

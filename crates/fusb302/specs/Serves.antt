@@ -1,12 +1,14 @@
 -- What every event method promises: the machine's step, in device, reply, count and lent symbols.
 -- Assumes nothing.
 use mathlib.Core.Path.{_≡_}
-use mathlib.Core.List.{List, _++_}
+use mathlib.Core.List.{List, [], _∷_, _++_}
+use mathlib.Core.Option.{Option, none, some}
 use Prim.Native.Nat.{ℕ, _≤_}
 use lib.ListN.{length, drop}
-use Rattle.line.specs.Frame.{joined}
+use Rattle.line.specs.Frame.{Frame, joined}
 use Rattle.line.specs.Write.{frameRoom}
 use Rattle.machine.specs.Registers.{fifos}
+use Rattle.machine.specs.Requests.{Effect}
 use Rattle.machine.specs.Events as events
 use Rattle.machine.specs.Events.{Event}
 use Rattle.machine.specs.Step.{step}
@@ -14,7 +16,7 @@ use Rattle.fusb302.specs.declared.device.Device.{Device}
 use Rattle.fusb302.specs.declared.device.Reply.{Reply}
 use Rattle.fusb302.specs.declared.device.Reply.the-variants.{Done, Value, No}
 use Rattle.fusb302.specs.declared.device.Outcome.{Outcome}
-use Rattle.fusb302.specs.View.{view, Asks}
+use Rattle.fusb302.specs.View.{view, Arranged, Asks}
 
 -- what a reply means, in 01's numbers and values
 abbrev pub replied : Reply → events.Reply
@@ -25,6 +27,23 @@ replied (No n) = events.no n
 -- symbols at the beginning of what was lent, and then what stood there
 abbrev pub over : List ℕ → List ℕ → List ℕ
 over f l = f ++ drop (length f) l
+
+-- frames were put at the beginning of the lent symbols, n symbols in all
+pub record Sends (fs : List Frame) (before : List ℕ) (n : ℕ) (after : List ℕ) : Type 0 where
+  pub count : n ≡ length (joined fs)
+  pub lent : after ≡ over (joined fs) before
+
+-- a part of a method that does what the machine's effect says, and sends its frames
+pub record Does (x : Effect) (before : List ℕ) (r : Outcome) (after : List ℕ) : Type 0 where
+  pub state : view (r .device) ≡ x .state
+  pub arranged : Arranged (r .device)
+  pub reply : r .reply ≡ Done
+  pub sends : Sends (x .frames) before (r .count) after
+
+-- none, or one
+abbrev pub listed : Option Frame → List Frame
+listed none = []
+listed (some f) = f ∷ []
 
 pub record Serves (e : Event) (d : Device) (before : List ℕ) (r : Outcome) (after : List ℕ) : Type 0 where
   pub state : view (r .device) ≡ step (view d) e .state

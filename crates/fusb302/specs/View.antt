@@ -21,10 +21,10 @@ abbrev pub phaseOf : Bool → Phase
 phaseOf true = softReset
 phaseOf false = message
 
-abbrev pub requestOf : Request → Option machine.Request
-requestOf q =
-    cond (q .active)
-    (some (record {
+-- what a request asks for, if it is open
+abbrev pub asked : Request → machine.Request
+asked q =
+    record {
       switches1 = q .switches1;
       retries = q .retries;
       soft = q .soft;
@@ -32,8 +32,10 @@ requestOf q =
       phase = phaseOf (q .resetting);
       sent = q .sent;
       waited = q .waited;
-    }))
-    none
+    }
+
+abbrev pub requestOf : Request → Option machine.Request
+requestOf q = cond (q .active) (some (asked q)) none
 
 abbrev pub statusOf : Status → machine.Status
 statusOf x = record { status0a = x .status0a; crcChk = x .«crc_chk»; kind = sopKind (x .kind) }

@@ -1,21 +1,39 @@
 // The device: registers, both FIFOs, interrupts, and the request that is open.
 use crate::bits::HARDRST;
 use crate::bits::I_HARDRST;
+use crate::bits::I_HARDSENT;
+use crate::bits::I_RETRYFAIL;
+use crate::bits::I_SOFTFAIL;
 use crate::bits::INT_MASK;
 use crate::bits::Place;
+use crate::bits::RETRYFAIL;
+use crate::bits::SOFTFAIL;
 use crate::bits::has;
 use crate::bits::place_of;
 use crate::fifo::Fifo;
+use crate::header::SOFT_RESET;
+use crate::header::control;
+use crate::queue::Message;
 use crate::queue::Queue;
+use line::write::Written;
+use line::write::write_frame;
 ghost use mathlib.Core.Path.{_≡_};
-ghost use mathlib.Core.Bool.{not, _||_};
-ghost use Prim.Native.Nat.{_+_, _-_, _≤_};
+ghost use mathlib.Core.Bool.{true, false, not, _||_};
+ghost use mathlib.Core.List.{[], _∷_};
+ghost use Prim.Native.Nat.{_+_, _-_, _≤_, _<_};
 ghost use lib.Dec.{eqb};
 ghost use lib.ListN.{length, getD};
 ghost use Rattle.machine.specs.Status.{txRoom, rxRoom, flag, lastIs, status1aOf, status0Of, status1Of, shown, clearedAt, intLow};
-ghost use Rattle.machine.specs.Events.{read, hardReset};
-ghost use Rattle.fusb302.specs.View.{view, intsOf, Arranged, Asks, PoweredUp};
-ghost use Rattle.fusb302.specs.Serves.{Serves, PortRead};
+ghost use Rattle.line.specs.Kind.{sopKinds};
+ghost use Rattle.line.specs.Frame.{Whole, Octets};
+ghost use Rattle.line.specs.Write.{frameRoom};
+ghost use Rattle.machine.specs.Queue.{spelt};
+ghost use Rattle.machine.specs.Headers.{control};
+ghost use Rattle.machine.specs.Requests.{flightIn, messageFails, softFails, expires};
+ghost use Rattle.machine.specs.Events.{read, pass, hardReset};
+ghost use Rattle.fusb302.specs.Queued.{queued, Kept};
+ghost use Rattle.fusb302.specs.View.{phaseOf, asked, view, intsOf, Arranged, Asks, PoweredUp};
+ghost use Rattle.fusb302.specs.Serves.{listed, Sends, Does, Serves, PortRead};
 
 pub struct Status {
     status0a: u8,
@@ -78,6 +96,41 @@ fn either_full(rx: usize, tx: usize) -> bool
         return true;
     }
     tx == Queue::CAPACITY
+}
+
+// Writes a whole frame; the number of its symbols.
+fn put(kind: u8, octets: &[u8], symbols: &mut [u8]) -> usize
+    requires { ⌜ Whole (record { kind = kind; octets = now octets }) × (frameRoom ≤ length (now symbols)) ⌝ }
+    ensures { λ r. ⌜ Sends (record { kind = kind; octets = now (octets .entry) } ∷ []) (now (symbols .entry)) r (now (symbols .exit)) ⌝ }
+{
+    let Written::Sent(count) = write_frame(kind, octets, symbols) else {
+        return 0;
+    };
+    count
+}
+
+// Writes a message that is a header alone, on a kind.
+fn put_control(code: u8, kind: u8, switches1: u8, id: u8, symbols: &mut [u8]) -> usize
+    requires { ⌜ (code < 16) × (kind < sopKinds) × (id < 8) × (frameRoom ≤ length (now symbols)) ⌝ }
+    ensures { λ r. ⌜ Sends (control code kind switches1 id ∷ []) (now (symbols .entry)) r (now (symbols .exit)) ⌝ }
+{
+    let octets = control(code, kind, switches1, id);
+    put(kind, &octets, symbols)
+}
+
+// Writes the message that a queue spells, if it spells one.
+fn put_message(tx: Queue, symbols: &mut [u8]) -> usize
+    requires { ⌜ Kept tx × Octets (queued tx) × (frameRoom ≤ length (now symbols)) ⌝ }
+    ensures { λ r. ⌜ Sends (listed (spelt (queued tx))) (now (symbols .entry)) r (now (symbols .exit)) ⌝ }
+{
+    match tx.message() {
+        Message::Spelt { kind, count } => {
+            let octets = tx.octets;
+            let end = 5 + count;
+            put(kind, &octets[5..end], symbols)
+        }
+        Message::Nothing => 0,
+    }
 }
 
 impl Ints {
@@ -313,6 +366,103 @@ impl Device {
         self.status.status0a = shown;
         let raised = self.ints.a | I_HARDRST;
         self.ints.a = raised;
+        self.done(0)
+    }
+
+    // ---- time
+
+    // What the request sends and sends again.
+    fn put_flight(self, symbols: &mut [u8]) -> usize
+        requires { ⌜ Arranged self × Octets (queued (self .tx)) × (frameRoom ≤ length (now symbols)) ⌝ }
+        ensures { λ r. ⌜ Sends (listed (flightIn (phaseOf (self .request .resetting)) (asked (self .request)) (queued (self .tx)))) (now (symbols .entry)) r (now (symbols .exit)) ⌝ }
+    {
+        if self.request.resetting {
+            return put_control(SOFT_RESET, 0, self.request.switches1, 0, symbols);
+        }
+        let tx = self.tx;
+        put_message(tx, symbols)
+    }
+
+    // The Soft_Reset failed: a Hard Reset follows if that was latched.
+    fn soft_fails(mut self, symbols: &mut [u8]) -> Outcome
+        requires { ⌜ Arranged self × (frameRoom ≤ length (now symbols)) ⌝ }
+        ensures { λ r. ⌜ Does (softFails (asked (self .request)) (view self)) (now (symbols .entry)) r (now (symbols .exit)) ⌝ }
+    {
+        self.tx = Queue::empty();
+        let shown = self.status.status0a | SOFTFAIL;
+        self.status.status0a = shown;
+        let raised = self.ints.a | I_SOFTFAIL;
+        self.ints.a = raised;
+        self.request.active = false;
+        if self.request.hard {
+            let sent = self.ints.a | I_HARDSENT;
+            self.ints.a = sent;
+            let count = put(5, b"", symbols);
+            return self.done(count);
+        }
+        self.done(0)
+    }
+
+    // The message failed: a Soft_Reset follows if that was latched.
+    fn message_fails(mut self, waited: u16, symbols: &mut [u8]) -> Outcome
+        requires { ⌜ Arranged self × (self .request .active ≡ true) × (frameRoom ≤ length (now symbols)) ⌝ }
+        ensures { λ r. ⌜ Does (messageFails waited (asked (self .request)) (view self)) (now (symbols .entry)) r (now (symbols .exit)) ⌝ }
+    {
+        self.tx = Queue::empty();
+        let shown = self.status.status0a | RETRYFAIL;
+        self.status.status0a = shown;
+        let raised = self.ints.a | I_RETRYFAIL;
+        self.ints.a = raised;
+        if self.request.soft {
+            self.request.resetting = true;
+            self.request.sent = 0;
+            self.request.waited = waited;
+            let count = put_control(SOFT_RESET, 0, self.request.switches1, 0, symbols);
+            return self.done(count);
+        }
+        self.request.active = false;
+        self.done(0)
+    }
+
+    // A wait ran out, and so many microseconds of the next have passed.
+    fn expire(mut self, waited: u16, symbols: &mut [u8]) -> Outcome
+        requires { ⌜ Asks self × (self .request .active ≡ true) × (frameRoom ≤ length (now symbols)) ⌝ }
+        ensures { λ r. ⌜ Does (expires waited (asked (self .request)) (view self)) (now (symbols .entry)) r (now (symbols .exit)) ⌝ }
+    {
+        let sent = self.request.sent;
+        if sent < self.request.retries {
+            let count = self.put_flight(symbols);
+            let again = sent + 1;
+            self.request.sent = again;
+            self.request.waited = waited;
+            return self.done(count);
+        }
+        if self.request.resetting {
+            return self.soft_fails(symbols);
+        }
+        self.message_fails(waited, symbols)
+    }
+
+    // Lets time pass.
+    pub fn pass(mut self, microseconds: u32, symbols: &mut [u8]) -> Outcome
+        requires { ⌜ Asks self ⌝ }
+        ensures { λ r. ⌜ Serves (pass (length (now (symbols .entry))) microseconds) self (now (symbols .entry)) r (now (symbols .exit)) ⌝ }
+    {
+        if symbols.len() < 73 {
+            return self.refuse(12);
+        }
+        if 1000 < microseconds {
+            return self.refuse(10);
+        }
+        if self.request.active {
+            let waited = self.request.waited as u32 + microseconds;
+            if waited < 1000 {
+                let so_far = waited as u16;
+                self.request.waited = so_far;
+                return self.done(0);
+            }
+            return self.expire((waited - 1000) as u16, symbols);
+        }
         self.done(0)
     }
 }

@@ -1,0 +1,70 @@
+-- Refused; no request is open; or the wait goes on, or runs out.
+use borrow.Author.Needs.{needs}
+use Rattle.fusb302.proofs.Waiting.{pass-small, pass-long, pass-idle, pass-waits, pass-expires}
+use Rattle.fusb302.proofs.device.Device.pass.Statement.{statement}
+use Rattle.fusb302.proofs.device.Device.pass.Tie as tie
+
+refuse-requires : tie.Need-refuse-requires
+refuse-requires c κs = search needs
+
+returns : tie.Need-returns
+returns c = rw (c .refuse .ensures) (pass-small _ (c .before .before .before .pre) _ _ (c .before .if1 .taken))
+
+refuse-requires-2 : tie.Need-refuse-requires-2
+refuse-requires-2 c κs = search needs
+
+returns-2 : tie.Need-returns-2
+returns-2 c = rw (c .refuse2 .ensures) (pass-long _ (c .before .before .before .before .pre) _ _ (c .before .before .if1 .left) (c .before .if2 .taken))
+
+cast-waited : tie.Need-cast-waited
+cast-waited c = search needs
+
+add-waited : tie.Need-add-waited
+add-waited c = search needs
+
+cast-so-far : tie.Need-cast-so-far
+cast-so-far c = search needs
+
+done-requires : tie.Need-done-requires
+done-requires c κs = search needs
+
+returns-3 : tie.Need-returns-3
+returns-3 c = rw (c .done .ensures) (pass-waits _ (c .before .before .before .before .before .before .before .before .pre) _ _ (c .before .before .before .before .before .before .if1 .left) (c .before .before .before .before .before .if2 .left) (c .before .before .before .before .if3 .taken) (c .before .before .if4 .taken))
+
+cast-expire : tie.Need-cast-expire
+cast-expire c = search needs
+
+expire-requires : tie.Need-expire-requires
+expire-requires c κs = search needs
+
+same-length : tie.Need-same-length
+same-length c = search needs
+
+returns-4 : tie.Need-returns-4
+returns-4 c = pass-expires _ (c .before .before .before .before .before .before .before .before .before .before .pre) _ _ (c .before .before .before .before .before .before .before .before .if1 .left) (c .before .before .before .before .before .before .before .if2 .left) (c .before .before .before .before .before .before .if3 .taken) (c .before .before .before .before .if4 .left) _ _ (c .before .before .expire .ensures)
+
+done-requires-2 : tie.Need-done-requires-2
+done-requires-2 c κs = search needs
+
+returns-5 : tie.Need-returns-5
+returns-5 c = rw (c .done2 .ensures) (pass-idle _ (c .before .before .before .before .before .pre) _ _ (c .before .before .before .if1 .left) (c .before .before .if2 .left) (c .before .if3 .left))
+
+pub pass-spec : {M : Type 1} → statement M
+pass-spec =
+    tie.close
+    (tie.spec
+    refuse-requires
+    returns
+    refuse-requires-2
+    returns-2
+    cast-waited
+    add-waited
+    cast-so-far
+    done-requires
+    returns-3
+    cast-expire
+    expire-requires
+    same-length
+    returns-4
+    done-requires-2
+    returns-5)

@@ -1,0 +1,35 @@
+-- No row refuses a whole frame where there is room for any, so that it is written.
+use borrow.Author.Needs.{needs}
+use native.Mathlib.Omega.{arith}
+use mathlib.Core.Logic.{⊎-elim}
+use Rattle.fusb302.proofs.Sending.{put-said, put-sent}
+use Rattle.fusb302.proofs.device.put.Statement.{statement}
+use Rattle.fusb302.proofs.device.put.Tie as tie
+
+write-frame-requires : tie.Need-write-frame-requires
+write-frame-requires c κs = search needs
+
+enum-known-count : tie.Need-enum-known-count
+enum-known-count c = search needs
+
+same-length : tie.Need-same-length
+same-length c = search needs
+
+returns : tie.Need-returns
+returns c =
+    let start = c .before .before .before .before .before .before .before in
+    let said = rw (put-said _ _ _ _ (start .pre .0) (start .pre .1) (c .before .before .before .write-frame .ensures)) at (c .match .keys2) in
+    absurd (⊎-elim (λ a. omega arith) (⊎-elim (λ a. omega arith) (λ a. omega arith)) said)
+
+same-length-2 : tie.Need-same-length-2
+same-length-2 c = search needs
+
+returns-2 : tie.Need-returns-2
+returns-2 c =
+    let start = c .before .before .before .before .before .before .before .before .before in
+    put-sent _ _ _ _ (start .pre .0) (start .pre .1) (c .before .before .before .before .before .write-frame .ensures) _ (c .before .count .given .1)
+
+pub put-spec : {M : Type 1} → statement M
+put-spec =
+    tie.close
+    (tie.spec write-frame-requires enum-known-count same-length returns same-length-2 returns-2)
