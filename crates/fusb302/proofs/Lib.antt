@@ -7,3 +7,4 @@ pub mod Showing
 pub mod Answering
 pub mod Sending
 pub mod Waiting
+pub mod Refusing

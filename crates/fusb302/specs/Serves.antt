@@ -1,9 +1,10 @@
 -- What every event method promises: the machine's step, in device, reply, count and lent symbols.
 -- Assumes nothing.
 use mathlib.Core.Path.{_≡_}
+use mathlib.Core.Bool.{Bool, cond}
 use mathlib.Core.List.{List, [], _∷_, _++_}
 use mathlib.Core.Option.{Option, none, some}
-use Prim.Native.Nat.{ℕ, _≤_}
+use Prim.Native.Nat.{ℕ, zero, suc, _≤_}
 use lib.ListN.{length, drop}
 use Rattle.line.specs.Frame.{Frame, joined}
 use Rattle.line.specs.Write.{frameRoom}
@@ -11,6 +12,8 @@ use Rattle.machine.specs.Registers.{fifos}
 use Rattle.machine.specs.Requests.{Effect}
 use Rattle.machine.specs.Events as events
 use Rattle.machine.specs.Events.{Event}
+use Rattle.machine.specs.State.{State}
+use Rattle.machine.specs.Refusals.{refusal}
 use Rattle.machine.specs.Step.{step}
 use Rattle.fusb302.specs.declared.device.Device.{Device}
 use Rattle.fusb302.specs.declared.device.Reply.{Reply}
@@ -56,3 +59,18 @@ pub record Serves (e : Event) (d : Device) (before : List ℕ) (r : Outcome) (af
 -- the same of a read of 43, room for a frame being lent
 pub record PortRead (d : Device) (r : Outcome) : Type 0 where
   pub serves : (before : List ℕ) → frameRoom ≤ length before → Serves (events.read (length before) fifos) d before r before
+
+-- ---- what a write is refused with
+
+-- a number of no, and 0 for none
+abbrev pub noOf : ℕ → Option ℕ
+noOf zero = none
+noOf (suc n) = some (suc n)
+
+-- room for a frame being lent, a write of v at a is refused with n
+pub record Refuses (s : State) (a v n : ℕ) : Type 0 where
+  pub is : (room : ℕ) → frameRoom ≤ room → refusal s (events.write room a v) ≡ noOf n
+
+-- a start's: 4 where the queue is no message, 7 where the driver is off
+abbrev pub startNo : Bool → Bool → ℕ
+startNo message on = cond message (cond on 0 7) 4

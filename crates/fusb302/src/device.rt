@@ -7,7 +7,11 @@ use crate::bits::I_SOFTFAIL;
 use crate::bits::INT_MASK;
 use crate::bits::Place;
 use crate::bits::RETRYFAIL;
+use crate::bits::SEND_HARD_RESET;
 use crate::bits::SOFTFAIL;
+use crate::bits::TX_FLUSH;
+use crate::bits::TX_START;
+use crate::bits::driver_on;
 use crate::bits::has;
 use crate::bits::place_of;
 use crate::fifo::Fifo;
@@ -15,25 +19,31 @@ use crate::header::SOFT_RESET;
 use crate::header::control;
 use crate::queue::Message;
 use crate::queue::Queue;
+use crate::queue::START;
+use crate::queue::is_token;
 use line::write::Written;
 use line::write::write_frame;
 ghost use mathlib.Core.Path.{_≡_};
-ghost use mathlib.Core.Bool.{true, false, not, _||_};
+ghost use mathlib.Core.Bool.{true, false, not, cond, _||_};
 ghost use mathlib.Core.List.{[], _∷_};
 ghost use Prim.Native.Nat.{_+_, _-_, _≤_, _<_};
-ghost use lib.Dec.{eqb};
+ghost use lib.Dec.{leb, eqb};
 ghost use lib.ListN.{length, getD};
 ghost use Rattle.machine.specs.Status.{txRoom, rxRoom, flag, lastIs, status1aOf, status0Of, status1Of, shown, clearedAt, intLow};
 ghost use Rattle.line.specs.Kind.{sopKinds};
 ghost use Rattle.line.specs.Frame.{Whole, Octets};
 ghost use Rattle.line.specs.Write.{frameRoom};
-ghost use Rattle.machine.specs.Queue.{spelt};
+ghost use Rattle.machine.specs.Registers.{fifos, has};
+ghost use Rattle.machine.specs.Queue.{START, spelt, isMessage};
 ghost use Rattle.machine.specs.Headers.{control};
-ghost use Rattle.machine.specs.Requests.{flightIn, messageFails, softFails, expires};
-ghost use Rattle.machine.specs.Events.{read, pass, hardReset};
+ghost use Rattle.machine.specs.Requests.{driverOn, flightIn, start, messageFails, softFails, expires};
+ghost use Rattle.machine.specs.Events.{write, read, pass, hardReset};
 ghost use Rattle.fusb302.specs.Queued.{queued, Kept};
 ghost use Rattle.fusb302.specs.View.{phaseOf, asked, view, intsOf, Arranged, Asks, PoweredUp};
-ghost use Rattle.fusb302.specs.Serves.{listed, Sends, Does, Serves, PortRead};
+ghost use Rattle.fusb302.specs.Serves.{listed, Sends, Does, Serves, PortRead, Refuses, startNo};
+
+// The longest frame (01, 'Numbers of no', 12).
+const FRAME_ROOM: usize = 73;
 
 pub struct Status {
     status0a: u8,
@@ -131,6 +141,32 @@ fn put_message(tx: Queue, symbols: &mut [u8]) -> usize
         }
         Message::Nothing => 0,
     }
+}
+
+// The number of no for a start; 0 for none.
+fn start_no(tx: Queue, switches1: u8) -> u8
+    requires { ⌜ Kept tx ⌝ }
+    ensures { λ r. ⌜ r ≡ startNo (isMessage (queued tx)) (driverOn switches1) ⌝ }
+{
+    match tx.message() {
+        Message::Spelt { kind: _, count: _ } => {
+            if driver_on(switches1) {
+                return 0;
+            }
+            7
+        }
+        Message::Nothing => 4,
+    }
+}
+
+// The number of no for an octet to be stored; 0 for none.
+fn full_no(held: usize) -> u8
+    ensures { λ r. ⌜ r ≡ cond (leb txRoom held) 5 0 ⌝ }
+{
+    if held < Queue::CAPACITY {
+        return 0;
+    }
+    5
 }
 
 impl Ints {
@@ -329,7 +365,7 @@ impl Device {
         requires { ⌜ Asks self ⌝ }
         ensures { λ r. ⌜ Serves (read (length (now (symbols .entry))) address) self (now (symbols .entry)) r (now (symbols .exit)) ⌝ }
     {
-        if symbols.len() < 73 {
+        if symbols.len() < FRAME_ROOM {
             return self.refuse(12);
         }
         match place_of(address) {
@@ -357,7 +393,7 @@ impl Device {
         requires { ⌜ Asks self ⌝ }
         ensures { λ r. ⌜ Serves (hardReset (length (now (symbols .entry)))) self (now (symbols .entry)) r (now (symbols .exit)) ⌝ }
     {
-        if symbols.len() < 73 {
+        if symbols.len() < FRAME_ROOM {
             return self.refuse(12);
         }
         self.tx = Queue::empty();
@@ -448,7 +484,7 @@ impl Device {
         requires { ⌜ Asks self ⌝ }
         ensures { λ r. ⌜ Serves (pass (length (now (symbols .entry))) microseconds) self (now (symbols .entry)) r (now (symbols .exit)) ⌝ }
     {
-        if symbols.len() < 73 {
+        if symbols.len() < FRAME_ROOM {
             return self.refuse(12);
         }
         if 1000 < microseconds {
@@ -464,5 +500,72 @@ impl Device {
             return self.expire((waited - 1000) as u16, symbols);
         }
         self.done(0)
+    }
+
+    // ---- what a write is refused with; 0 for nothing
+
+    fn port_no(self, octet: u8) -> u8
+        requires { ⌜ Arranged self ⌝ }
+        ensures { λ r. ⌜ Refuses (view self) fifos octet r ⌝ }
+    {
+        if self.request.active {
+            return 6;
+        }
+        let tx = self.tx;
+        if tx.left == 0 {
+            if octet == START {
+                return start_no(tx, self.cells[1]);
+            }
+            if is_token(octet) {
+                return full_no(tx.len);
+            }
+            return 3;
+        }
+        full_no(tx.len)
+    }
+
+    fn register_no(self, address: u8, value: u8) -> u8
+        requires { ⌜ Arranged self × (2 ≤ address) × (address ≤ 0x10) ⌝ }
+        ensures { λ r. ⌜ Refuses (view self) address value r ⌝ }
+    {
+        let tx = self.tx;
+        let switches1 = self.cells[1];
+        match address {
+            0x06 => {
+                if has(TX_START, value) {
+                    if self.request.active {
+                        return 6;
+                    }
+                    if has(TX_FLUSH, value) {
+                        return 4;
+                    }
+                    return start_no(tx, switches1);
+                }
+                0
+            }
+            0x09 => {
+                if has(SEND_HARD_RESET, value) {
+                    if driver_on(switches1) {
+                        return 0;
+                    }
+                    return 7;
+                }
+                0
+            }
+            _ => 0,
+        }
+    }
+
+    fn write_no(self, address: u8, value: u8) -> u8
+        requires { ⌜ Arranged self ⌝ }
+        ensures { λ r. ⌜ Refuses (view self) address value r ⌝ }
+    {
+        match place_of(address) {
+            Place::Id => 2,
+            Place::Stored => self.register_no(address, value),
+            Place::Shown => 2,
+            Place::Port => self.port_no(value),
+            Place::Nowhere => 1,
+        }
     }
 }
