@@ -8,3 +8,5 @@ pub mod Answering
 pub mod Sending
 pub mod Waiting
 pub mod Refusing
+pub mod Writing
+pub mod Hearing

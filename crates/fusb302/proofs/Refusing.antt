@@ -239,13 +239,16 @@ module _ (d : Device) (v : ℕ) where
   control3-quiet h = quiet (view d) control3 v (omega arith) (omega arith) refl h
 
   module _ (h : has SEND-HARD-RESET v ≡ true) where
-    pub control3-on : on d ≡ true → Refuses (view d) control3 v 0
+    at-reset : (n : ℕ) (b : Bool) → on d ≡ b → cond {A = Option ℕ} (not b) (some 7) none ≡ noOf n → Refuses (view d) control3 v n
     unfolding txStart sendsReset cell
-    control3-on e = record { is = λ room r. register-checks (view d) control3 v (omega arith) (omega arith) room r ∙ rw (h, e) refl }
+    at-reset n b e k =
+        record { is = λ room r. register-checks (view d) control3 v (omega arith) (omega arith) room r ∙ rw (h, e) k }
+
+    pub control3-on : on d ≡ true → Refuses (view d) control3 v 0
+    control3-on e = at-reset 0 true e refl
 
     pub control3-off : on d ≡ false → Refuses (view d) control3 v 7
-    unfolding txStart sendsReset cell
-    control3-off e = record { is = λ room r. register-checks (view d) control3 v (omega arith) (omega arith) room r ∙ rw (h, e) refl }
+    control3-off e = at-reset 7 false e refl
 
   module _ (h : has TX-START v ≡ true) where
     at-start : (n : ℕ) (busy flush : Bool) → d .request .active ≡ busy → has TX-FLUSH v ≡ flush

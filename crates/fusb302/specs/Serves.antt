@@ -36,12 +36,25 @@ pub record Sends (fs : List Frame) (before : List ℕ) (n : ℕ) (after : List �
   pub count : n ≡ length (joined fs)
   pub lent : after ≡ over (joined fs) before
 
+-- a device that stands for a state
+pub record Becomes (s : State) (d : Device) : Type 0 where
+  pub state : view d ≡ s
+  pub arranged : Arranged d
+
 -- a part of a method that does what the machine's effect says, and sends its frames
 pub record Does (x : Effect) (before : List ℕ) (r : Outcome) (after : List ℕ) : Type 0 where
   pub state : view (r .device) ≡ x .state
   pub arranged : Arranged (r .device)
   pub reply : r .reply ≡ Done
   pub sends : Sends (x .frames) before (r .count) after
+
+-- a part that is lent no symbols, since it sends nothing
+pub record DoesQuietly (x : Effect) (r : Outcome) : Type 0 where
+  pub state : view (r .device) ≡ x .state
+  pub arranged : Arranged (r .device)
+  pub reply : r .reply ≡ Done
+  pub count : r .count ≡ 0
+  pub quiet : x .frames ≡ []
 
 -- none, or one
 abbrev pub listed : Option Frame → List Frame

@@ -1,30 +1,53 @@
 // The device: registers, both FIFOs, interrupts, and the request that is open.
+use crate::bits::AUTO_CRC;
+use crate::bits::AUTO_HARDRESET;
+use crate::bits::AUTO_PRE;
+use crate::bits::AUTO_SOFTRESET;
+use crate::bits::ENSOP1;
+use crate::bits::ENSOP1DB;
+use crate::bits::ENSOP2;
+use crate::bits::ENSOP2DB;
 use crate::bits::HARDRST;
+use crate::bits::I_ALERT;
+use crate::bits::I_CRC_CHK;
+use crate::bits::I_GCRCSENT;
 use crate::bits::I_HARDRST;
 use crate::bits::I_HARDSENT;
 use crate::bits::I_RETRYFAIL;
 use crate::bits::I_SOFTFAIL;
+use crate::bits::I_SOFTRST;
+use crate::bits::I_TXSENT;
 use crate::bits::INT_MASK;
+use crate::bits::PD_RESET;
 use crate::bits::Place;
 use crate::bits::RETRYFAIL;
+use crate::bits::RX_FLUSH;
 use crate::bits::SEND_HARD_RESET;
 use crate::bits::SOFTFAIL;
+use crate::bits::SOFTRST;
+use crate::bits::SW_RES;
 use crate::bits::TX_FLUSH;
 use crate::bits::TX_START;
 use crate::bits::driver_on;
 use crate::bits::has;
 use crate::bits::place_of;
+use crate::bits::retries_of;
+use crate::bits::stored_bits;
 use crate::fifo::Fifo;
+use crate::header::GOOD_CRC;
 use crate::header::SOFT_RESET;
 use crate::header::control;
+use crate::header::is_control;
+use crate::header::message_id;
 use crate::queue::Message;
 use crate::queue::Queue;
 use crate::queue::START;
 use crate::queue::is_token;
+use line::crc::right;
 use line::write::Written;
 use line::write::write_frame;
 ghost use mathlib.Core.Path.{_≡_};
-ghost use mathlib.Core.Bool.{true, false, not, cond, _||_};
+ghost use mathlib.Core.Bool.{true, false, not, cond, _&&_, _||_};
 ghost use mathlib.Core.List.{[], _∷_};
 ghost use Prim.Native.Nat.{_+_, _-_, _≤_, _<_};
 ghost use lib.Dec.{leb, eqb};
@@ -33,14 +56,16 @@ ghost use Rattle.machine.specs.Status.{txRoom, rxRoom, flag, lastIs, status1aOf
 ghost use Rattle.line.specs.Kind.{sopKinds};
 ghost use Rattle.line.specs.Frame.{Whole, Octets};
 ghost use Rattle.line.specs.Write.{frameRoom};
-ghost use Rattle.machine.specs.Registers.{fifos, has};
+ghost use Rattle.machine.specs.Registers.{fifos, has, TX-FLUSH, TX-START};
 ghost use Rattle.machine.specs.Queue.{START, spelt, isMessage};
-ghost use Rattle.machine.specs.Headers.{control};
-ghost use Rattle.machine.specs.Requests.{driverOn, flightIn, start, messageFails, softFails, expires};
-ghost use Rattle.machine.specs.Events.{write, read, pass, hardReset};
+ghost use Rattle.machine.specs.Headers.{control, messageId};
+ghost use Rattle.machine.specs.Requests.{driverOn, flightIn, acknowledged, start, messageFails, softFails, expires};
+ghost use Rattle.machine.specs.Packets.{enables, hasRoom, awaited, repliesTo, rxToken, when, checks, softResetHeard, stores, accepts, hears};
+ghost use Rattle.machine.specs.Events.{write, read, pass, hardReset, packet};
+ghost use Rattle.machine.specs.Step.{control0Written, control1Written, control3Written, resetWritten, portWritten, writes};
 ghost use Rattle.fusb302.specs.Queued.{queued, Kept};
 ghost use Rattle.fusb302.specs.View.{phaseOf, asked, view, intsOf, Arranged, Asks, PoweredUp};
-ghost use Rattle.fusb302.specs.Serves.{listed, Sends, Does, Serves, PortRead, Refuses, startNo};
+ghost use Rattle.fusb302.specs.Serves.{listed, Becomes, Sends, Does, DoesQuietly, Serves, PortRead, Refuses, startNo};
 
 // The longest frame (01, 'Numbers of no', 12).
 const FRAME_ROOM: usize = 73;
@@ -167,6 +192,55 @@ fn full_no(held: usize) -> u8
         return 0;
     }
     5
+}
+
+// Whether an octet at the port starts a request: A1 where it is not data.
+fn is_start(left: u8, octet: u8) -> bool
+    ensures { λ r. ⌜ r ≡ (eqb left 0 && eqb octet START) ⌝ }
+{
+    if left == 0 {
+        return octet == START;
+    }
+    false
+}
+
+// The token of a kind in Rx (01, 'Line code (PD)', table).
+fn rx_token(kind: u8) -> u8
+    requires { ⌜ kind < sopKinds ⌝ }
+    ensures { λ r. ⌜ r ≡ rxToken kind ⌝ }
+{
+    match kind {
+        0 => 0xE0,
+        1 => 0xC0,
+        2 => 0xA0,
+        3 => 0x80,
+        _ => 0x60,
+    }
+}
+
+// Whether packets of a kind are heard, by Control1.
+fn kind_on(kind: u8, control1: u8) -> bool
+    requires { ⌜ kind < sopKinds ⌝ }
+    ensures { λ r. ⌜ r ≡ cond (eqb kind 0) true (has (enables kind) control1) ⌝ }
+{
+    match kind {
+        0 => true,
+        1 => has(ENSOP1, control1),
+        2 => has(ENSOP2, control1),
+        3 => has(ENSOP1DB, control1),
+        _ => has(ENSOP2DB, control1),
+    }
+}
+
+// Whether kind and MessageID are those that were sent.
+fn answers(sent: u8, id: u8, kind: u8, packet: &[u8]) -> bool
+    requires { ⌜ 2 ≤ length (now packet) ⌝ }
+    ensures { λ r. ⌜ r ≡ (eqb sent kind && eqb id (messageId (now (packet .entry)))) ⌝ }
+{
+    if sent == kind {
+        return id == message_id(packet);
+    }
+    false
 }
 
 impl Ints {
@@ -567,5 +641,306 @@ impl Device {
             Place::Port => self.port_no(value),
             Place::Nowhere => 1,
         }
+    }
+
+    // ---- what a write does
+
+    // Opens a request for the message that the queue spells, and sends it.
+    fn begin(mut self, symbols: &mut [u8]) -> Outcome
+        requires { ⌜ Arranged self × Octets (queued (self .tx)) × (frameRoom ≤ length (now symbols)) ⌝ }
+        ensures { λ r. ⌜ Does (start (view self)) (now (symbols .entry)) r (now (symbols .exit)) ⌝ }
+    {
+        let cells = self.cells;
+        let tx = self.tx;
+        let hidden = self.status.status0a & !(SOFTFAIL | RETRYFAIL);
+        self.status.status0a = hidden;
+        let request = Request {
+            active: true,
+            switches1: cells[1],
+            retries: retries_of(cells[7]),
+            soft: has(AUTO_SOFTRESET, cells[7]),
+            hard: has(AUTO_HARDRESET, cells[7]),
+            resetting: false,
+            sent: 0,
+            waited: 0,
+        };
+        self.request = request;
+        let count = put_message(tx, symbols);
+        self.done(count)
+    }
+
+    fn port_written(mut self, octet: u8, symbols: &mut [u8]) -> Outcome
+        requires { ⌜ Asks self × Refuses (view self) fifos octet 0 × (frameRoom ≤ length (now symbols)) ⌝ }
+        ensures { λ r. ⌜ Does (portWritten octet (view self)) (now (symbols .entry)) r (now (symbols .exit)) ⌝ }
+    {
+        let tx = self.tx;
+        if is_start(tx.left, octet) {
+            return self.begin(symbols);
+        }
+        let longer = tx.push(octet);
+        let main = self.ints.main | flag(I_ALERT, longer.len == Queue::CAPACITY);
+        self.tx = longer;
+        self.ints.main = main;
+        self.done(0)
+    }
+
+    fn control0_written(mut self, value: u8, symbols: &mut [u8]) -> Outcome
+        requires { ⌜ Arranged self × Octets (queued (self .tx)) × (has TX-START value ≡ true → has TX-FLUSH value ≡ false) × (frameRoom ≤ length (now symbols)) ⌝ }
+        ensures { λ r. ⌜ Does (control0Written value (view self)) (now (symbols .entry)) r (now (symbols .exit)) ⌝ }
+    {
+        if has(TX_START, value) {
+            return self.begin(symbols);
+        }
+        if has(TX_FLUSH, value) {
+            self.tx = Queue::empty();
+            self.request.active = false;
+            return self.done(0);
+        }
+        self.done(0)
+    }
+
+    fn control1_written(mut self, value: u8) -> Outcome
+        requires { ⌜ Arranged self ⌝ }
+        ensures { λ r. ⌜ DoesQuietly (control1Written value (view self)) r ⌝ }
+    {
+        if has(RX_FLUSH, value) {
+            self.rx = Fifo::empty();
+            return self.done(0);
+        }
+        self.done(0)
+    }
+
+    fn control3_written(mut self, value: u8, symbols: &mut [u8]) -> Outcome
+        requires { ⌜ Arranged self × (frameRoom ≤ length (now symbols)) ⌝ }
+        ensures { λ r. ⌜ Does (control3Written value (view self)) (now (symbols .entry)) r (now (symbols .exit)) ⌝ }
+    {
+        if has(SEND_HARD_RESET, value) {
+            self.tx = Queue::empty();
+            self.request.active = false;
+            let hidden = self.status.status0a & !(SOFTFAIL | RETRYFAIL);
+            self.status.status0a = hidden;
+            let raised = self.ints.a | I_HARDSENT;
+            self.ints.a = raised;
+            let count = put(5, b"", symbols);
+            return self.done(count);
+        }
+        self.done(0)
+    }
+
+    fn reset_written(mut self, value: u8) -> Outcome
+        requires { ⌜ Arranged self ⌝ }
+        ensures { λ r. ⌜ DoesQuietly (resetWritten value (view self)) r ⌝ }
+    {
+        if has(SW_RES, value) {
+            let fresh = Device::power_up();
+            return fresh.done(0);
+        }
+        if has(PD_RESET, value) {
+            self.tx = Queue::empty();
+            self.rx = Fifo::empty();
+            self.request.active = false;
+            let cleared = Status {
+                status0a: 0,
+                crc_chk: false,
+                kind: 5,
+            };
+            self.status = cleared;
+            return self.done(0);
+        }
+        self.done(0)
+    }
+
+    fn written(mut self, address: u8, value: u8, symbols: &mut [u8]) -> Outcome
+        requires { ⌜ Asks self × Refuses (view self) address value 0 × (frameRoom ≤ length (now symbols)) ⌝ }
+        ensures { λ r. ⌜ Does (writes address value (view self)) (now (symbols .entry)) r (now (symbols .exit)) ⌝ }
+    {
+        if address == 0x43 {
+            return self.port_written(value, symbols);
+        }
+        let at = (address - 2) as usize;
+        self.cells[at] = value & stored_bits(address);
+        match address {
+            0x06 => self.control0_written(value, symbols),
+            0x07 => self.control1_written(value),
+            0x09 => self.control3_written(value, symbols),
+            0x0C => self.reset_written(value),
+            _ => self.done(0),
+        }
+    }
+
+    // Writes a register or the port.
+    pub fn write(mut self, address: u8, value: u8, symbols: &mut [u8]) -> Outcome
+        requires { ⌜ Asks self ⌝ }
+        ensures { λ r. ⌜ Serves (write (length (now (symbols .entry))) address value) self (now (symbols .entry)) r (now (symbols .exit)) ⌝ }
+    {
+        if symbols.len() < FRAME_ROOM {
+            return self.refuse(12);
+        }
+        let no = self.write_no(address, value);
+        if no == 0 {
+            return self.written(address, value, symbols);
+        }
+        self.refuse(no)
+    }
+
+    // ---- packets heard
+
+    // A GoodCRC of the kind and MessageID of the frame that is in flight.
+    fn awaits(self, kind: u8, packet: &[u8]) -> bool
+        requires { ⌜ Arranged self × (6 ≤ length (now packet)) ⌝ }
+        ensures { λ r. ⌜ r ≡ awaited kind (now (packet .entry)) (view self) ⌝ }
+    {
+        if self.request.active {
+            if is_control(GOOD_CRC, packet) {
+                if self.request.resetting {
+                    return answers(0, 0, kind, packet);
+                }
+                let tx = self.tx;
+                match tx.message() {
+                    Message::Spelt {
+                        kind: sent,
+                        count: _,
+                    } => {
+                        let octets = tx.octets;
+                        return answers(sent, message_id(&octets[5..7]), kind, packet);
+                    }
+                    Message::Nothing => {
+                        return false;
+                    }
+                }
+            }
+            return false;
+        }
+        false
+    }
+
+    // CRC_CHK and I_CRC_CHK.
+    fn checked(mut self) -> Device
+        requires { ⌜ Arranged self ⌝ }
+        ensures { λ r. ⌜ Becomes (checks (view self)) r ⌝ }
+    {
+        self.status.crc_chk = true;
+        let main = self.ints.main | I_CRC_CHK;
+        self.ints.main = main;
+        self
+    }
+
+    // The awaited GoodCRC ends the request.
+    fn acknowledged(mut self, awaited: bool) -> Device
+        requires { ⌜ Arranged self ⌝ }
+        ensures { λ r. ⌜ Becomes (when awaited acknowledged (view self)) r ⌝ }
+    {
+        if awaited {
+            self.tx = Queue::empty();
+            self.request.active = false;
+            let raised = self.ints.a | I_TXSENT;
+            self.ints.a = raised;
+            return self;
+        }
+        self
+    }
+
+    fn soft_reset(mut self, heard: bool) -> Device
+        requires { ⌜ Arranged self ⌝ }
+        ensures { λ r. ⌜ Becomes (when heard softResetHeard (view self)) r ⌝ }
+    {
+        if heard {
+            let shown = self.status.status0a | SOFTRST;
+            self.status.status0a = shown;
+            let raised = self.ints.a | I_SOFTRST;
+            self.ints.a = raised;
+            return self;
+        }
+        self
+    }
+
+    // Whether a GoodCRC leaves for a packet that is stored.
+    fn replies_to(self, packet: &[u8]) -> bool
+        requires { ⌜ Arranged self ⌝ }
+        ensures { λ r. ⌜ r ≡ repliesTo (now (packet .entry)) (view self) ⌝ }
+    {
+        let cells = self.cells;
+        if is_control(GOOD_CRC, packet) {
+            return false;
+        }
+        if has(AUTO_CRC, cells[1]) {
+            if has(AUTO_PRE, cells[4]) {
+                return false;
+            }
+            return driver_on(cells[1]);
+        }
+        false
+    }
+
+    // Token and octets go to Rx, and a GoodCRC leaves if one is due.
+    fn store(mut self, kind: u8, packet: &[u8], symbols: &mut [u8]) -> Outcome
+        requires { ⌜ Arranged self × (kind < sopKinds) × (6 ≤ length (now packet)) × (hasRoom (now packet) (view self) ≡ true) × (frameRoom ≤ length (now symbols)) ⌝ }
+        ensures { λ r. ⌜ Does (stores kind (now (packet .entry)) (view self)) (now (symbols .entry)) r (now (symbols .exit)) ⌝ }
+    {
+        let replies = self.replies_to(packet);
+        let rx = self.rx;
+        let longer = rx.store(rx_token(kind), packet);
+        let main = self.ints.main | flag(I_ALERT, longer.len == Fifo::CAPACITY);
+        self.rx = longer;
+        self.ints.main = main;
+        self.status.kind = kind;
+        if replies {
+            let raised = self.ints.b | I_GCRCSENT;
+            self.ints.b = raised;
+            let count = put_control(GOOD_CRC, kind, self.cells[1], message_id(packet), symbols);
+            return self.done(count);
+        }
+        self.done(0)
+    }
+
+    // A packet whose CRC is right.
+    fn accept(self, kind: u8, packet: &[u8], symbols: &mut [u8]) -> Outcome
+        requires { ⌜ Arranged self × (kind < sopKinds) × (6 ≤ length (now packet)) × (length (now packet) ≤ 34) × (frameRoom ≤ length (now symbols)) ⌝ }
+        ensures { λ r. ⌜ Does (accepts kind (now (packet .entry)) (view self)) (now (symbols .entry)) r (now (symbols .exit)) ⌝ }
+    {
+        let awaited = self.awaits(kind, packet);
+        let mut noted = self.checked()
+            .acknowledged(awaited)
+            .soft_reset(is_control(SOFT_RESET, packet));
+        if noted.rx.len + 1 + packet.len() <= Fifo::CAPACITY {
+            return noted.store(kind, packet, symbols);
+        }
+        let main = noted.ints.main | I_ALERT;
+        noted.ints.main = main;
+        noted.done(0)
+    }
+
+    fn hear(mut self, kind: u8, packet: &[u8], symbols: &mut [u8]) -> Outcome
+        requires { ⌜ Arranged self × (kind < sopKinds) × (6 ≤ length (now packet)) × (length (now packet) ≤ 34) × (frameRoom ≤ length (now symbols)) ⌝ }
+        ensures { λ r. ⌜ Does (hears kind (now (packet .entry)) (view self)) (now (symbols .entry)) r (now (symbols .exit)) ⌝ }
+    {
+        if kind_on(kind, self.cells[5]) {
+            if right(packet) {
+                return self.accept(kind, packet, symbols);
+            }
+            self.status.crc_chk = false;
+            return self.done(0);
+        }
+        self.done(0)
+    }
+
+    // Hears a packet: its kind and its octets with CRC.
+    pub fn hear_packet(mut self, kind: u32, octets: &[u8], symbols: &mut [u8]) -> Outcome
+        requires { ⌜ Asks self ⌝ }
+        ensures { λ r. ⌜ Serves (packet (length (now (symbols .entry))) kind (now (octets .entry))) self (now (symbols .entry)) r (now (symbols .exit)) ⌝ }
+    {
+        if symbols.len() < FRAME_ROOM {
+            return self.refuse(12);
+        }
+        if 4 < kind {
+            return self.refuse(11);
+        }
+        if octets.len() < 6 {
+            return self.refuse(9);
+        }
+        if 34 < octets.len() {
+            return self.refuse(9);
+        }
+        self.hear(kind as u8, octets, symbols)
     }
 }

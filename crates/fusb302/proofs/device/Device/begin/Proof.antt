@@ -1,0 +1,54 @@
+-- The request is as latched, and the message that the queue spells leaves.
+use borrow.Author.Needs.{needs}
+use Rattle.fusb302.proofs.Writing.{begins}
+use Rattle.fusb302.proofs.device.Device.begin.Statement.{statement}
+use Rattle.fusb302.proofs.device.Device.begin.Tie as tie
+
+array-read-t8 : tie.Need-array-read-t8
+array-read-t8 c = search needs
+
+array-read-retries-of : tie.Need-array-read-retries-of
+array-read-retries-of c = search needs
+
+retries-of-requires : tie.Need-retries-of-requires
+retries-of-requires c κs = search needs
+
+array-read-has : tie.Need-array-read-has
+array-read-has c = search needs
+
+has-requires : tie.Need-has-requires
+has-requires c κs = search needs
+
+array-read-has-2 : tie.Need-array-read-has-2
+array-read-has-2 c = search needs
+
+has-requires-2 : tie.Need-has-requires-2
+has-requires-2 c κs = search needs
+
+put-message-requires : tie.Need-put-message-requires
+put-message-requires c κs = search needs
+
+done-requires : tie.Need-done-requires
+done-requires c κs = search needs
+
+same-length : tie.Need-same-length
+same-length c = search needs
+
+returns : tie.Need-returns
+returns c = rw (c .done .ensures) (begins _ (c .before .before .before .before .before .before .before .before .before .before .before .before .before .pre .0) _ _ _ (c .before .before .before .before .before .before .before .retries-of .ensures) (c .before .before .before .before .before .before .has .ensures) (c .before .before .before .before .before .has2 .ensures) _ _ _ (c .before .before .before .put-message .ensures))
+
+pub begin-spec : {M : Type 1} → statement M
+begin-spec =
+    tie.close
+    (tie.spec
+    array-read-t8
+    array-read-retries-of
+    retries-of-requires
+    array-read-has
+    has-requires
+    array-read-has-2
+    has-requires-2
+    put-message-requires
+    done-requires
+    same-length
+    returns)

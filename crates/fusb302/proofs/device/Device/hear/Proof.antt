@@ -1,0 +1,51 @@
+-- The kind is off, the CRC wrong, or the packet is accepted.
+use borrow.Author.Needs.{needs}
+use mathlib.Core.Path.{sym, _∙_}
+use Rattle.fusb302.proofs.Hearing.{hears-off, hears-wrong, hears-right}
+use Rattle.fusb302.proofs.device.Device.hear.Statement.{statement}
+use Rattle.fusb302.proofs.device.Device.hear.Tie as tie
+
+element-copy-out-kind-on : tie.Need-element-copy-out-kind-on
+element-copy-out-kind-on c = search needs
+
+kind-on-requires : tie.Need-kind-on-requires
+kind-on-requires c κs = search needs
+
+right-requires : tie.Need-right-requires
+right-requires c κs = search needs
+
+accept-requires : tie.Need-accept-requires
+accept-requires c κs = search needs
+
+same-length : tie.Need-same-length
+same-length c = search needs
+
+returns : tie.Need-returns
+returns c = hears-right (c .before .before .before .before .before .before .before .before .before .before .before .args .t1) _ _ _ (sym (c .before .before .before .before .before .before .before .kind-on .ensures) ∙ c .before .before .before .before .before .before .if1 .taken) (sym (c .before .before .before .before .before .right .ensures) ∙ c .before .before .before .before .if2 .taken) _ _ (c .before .before .accept .ensures)
+
+done-requires : tie.Need-done-requires
+done-requires c κs = search needs
+
+returns-2 : tie.Need-returns-2
+returns-2 c = rw (c .done .ensures) (hears-wrong (c .before .before .before .before .before .before .before .before .before .args .t1) _ _ _ (c .before .before .before .before .before .before .before .before .before .pre .0) (sym (c .before .before .before .before .before .kind-on .ensures) ∙ c .before .before .before .before .if1 .taken) (sym (c .before .before .before .right .ensures) ∙ c .before .before .if2 .left))
+
+done-requires-2 : tie.Need-done-requires-2
+done-requires-2 c κs = search needs
+
+returns-3 : tie.Need-returns-3
+returns-3 c = rw (c .done2 .ensures) (hears-off (c .before .before .before .before .before .before .args .t1) _ _ _ (c .before .before .before .before .before .before .pre .0) (sym (c .before .before .kind-on .ensures) ∙ c .before .if1 .left))
+
+pub hear-spec : {M : Type 1} → statement M
+hear-spec =
+    tie.close
+    (tie.spec
+    element-copy-out-kind-on
+    kind-on-requires
+    right-requires
+    accept-requires
+    same-length
+    returns
+    done-requires
+    returns-2
+    done-requires-2
+    returns-3)

@@ -1,0 +1,47 @@
+-- A start begins a request; another octet is queued, and finds room since it was not refused.
+use borrow.Author.Needs.{needs}
+use mathlib.Core.Path.{sym, _∙_}
+use Rattle.fusb302.proofs.Refusing.{port-room}
+use Rattle.fusb302.proofs.Writing.{port-begins, port-queues}
+use Rattle.fusb302.proofs.device.Device.port_written.Statement.{statement}
+use Rattle.fusb302.proofs.device.Device.port_written.Tie as tie
+
+is-start-requires : tie.Need-is-start-requires
+is-start-requires c κs = search needs
+
+begin-requires : tie.Need-begin-requires
+begin-requires c κs = search needs
+
+same-length : tie.Need-same-length
+same-length c = search needs
+
+returns : tie.Need-returns
+returns c = port-begins _ (c .before .before .before .before .before .before .before .before .pre .0 .arranged) _ _ (sym (c .before .before .before .before .before .is-start .ensures) ∙ c .before .before .before .before .if1 .taken) _ _ (c .before .before .begin .ensures)
+
+push-requires : tie.Need-push-requires
+push-requires c κs =
+    (c .before .before .before .before .pre .0 .arranged .tx, port-room _ (c .before .before .before .before .pre .0 .arranged) _ (c .before .before .before .before .pre .1) (sym (c .before .is-start .ensures) ∙ c .if1 .left))
+
+flag-requires : tie.Need-flag-requires
+flag-requires c κs = search needs
+
+done-requires : tie.Need-done-requires
+done-requires c κs = search needs
+
+returns-2 : tie.Need-returns-2
+returns-2 c =
+    rw (c .done .ensures)
+    (port-queues _ (c .before .before .before .before .before .before .before .before .before .before .pre .0 .arranged) _ _ (sym (c .before .before .before .before .before .before .before .is-start .ensures) ∙ c .before .before .before .before .before .before .if1 .left) _ (c .before .before .before .before .before .push .ensures .0) (c .before .before .before .before .before .push .ensures .1) _ (c .before .before .before .flag .ensures .0))
+
+pub port-written-spec : {M : Type 1} → statement M
+port-written-spec =
+    tie.close
+    (tie.spec
+    is-start-requires
+    begin-requires
+    same-length
+    returns
+    push-requires
+    flag-requires
+    done-requires
+    returns-2)

@@ -1,0 +1,44 @@
+-- Refused with the number found; or taken, and carried out.
+use borrow.Author.Needs.{needs}
+use native.Mathlib.Omega.{arith}
+use Rattle.fusb302.proofs.Writing.{write-small, write-refused, write-taken}
+use Rattle.fusb302.proofs.device.Device.write.Statement.{statement}
+use Rattle.fusb302.proofs.device.Device.write.Tie as tie
+
+refuse-requires : tie.Need-refuse-requires
+refuse-requires c κs = search needs
+
+returns : tie.Need-returns
+returns c = rw (c .refuse .ensures) (write-small _ (c .before .before .before .pre) _ _ _ (c .before .if1 .taken))
+
+write-no-requires : tie.Need-write-no-requires
+write-no-requires c κs = search needs
+
+written-requires : tie.Need-written-requires
+written-requires c κs = (c .before .before .before .before .before .pre, rw (c .before .if2 .taken) at (c .before .before .write-no .ensures), c .before .before .before .if1 .left)
+
+same-length : tie.Need-same-length
+same-length c = search needs
+
+returns-2 : tie.Need-returns-2
+returns-2 c =
+    write-taken _ (c .before .before .before .before .before .before .before .before .pre) _ _ _ (c .before .before .before .before .before .before .if1 .left) (rw (c .before .before .before .before .if2 .taken) at (c .before .before .before .before .before .write-no .ensures)) (omega arith) (omega arith) _ _ (c .before .before .written .ensures)
+
+refuse-requires-2 : tie.Need-refuse-requires-2
+refuse-requires-2 c κs = search needs
+
+returns-3 : tie.Need-returns-3
+returns-3 c = rw (c .refuse2 .ensures) (write-refused _ (c .before .before .before .before .before .pre) _ _ _ (c .before .before .before .if1 .left) _ (c .before .if2 .left) (c .before .before .write-no .ensures))
+
+pub write-spec : {M : Type 1} → statement M
+write-spec =
+    tie.close
+    (tie.spec
+    refuse-requires
+    returns
+    write-no-requires
+    written-requires
+    same-length
+    returns-2
+    refuse-requires-2
+    returns-3)
