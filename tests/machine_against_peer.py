@@ -84,7 +84,6 @@ def main():
     seed, histories, length = [int(word) for word in sys.argv[2:5]] + [20, 60, 250][len(sys.argv) - 2:]
     shutil.rmtree(SCRATCH, ignore_errors=True)
     os.makedirs(SCRATCH + '/target')
-    shutil.copy('crates.txt', SCRATCH)
     for folder in ('crates/line', 'crates/machine', 'target/rlib', 'target/stamp'):
         shutil.copytree(folder, os.path.join(SCRATCH, folder))
     with open(SCRATCH + '/crates.txt', 'w', encoding='utf-8') as crates:

@@ -10,3 +10,4 @@ pub mod Waiting
 pub mod Refusing
 pub mod Writing
 pub mod Hearing
+pub mod Outcomes

@@ -4,3 +4,4 @@ pub mod Queued
 pub mod Held
 pub mod View
 pub mod Serves
+pub mod Theorems

@@ -70,6 +70,33 @@ ghost use Rattle.fusb302.specs.Serves.{listed, Becomes, Sends, Does, Doe
 // The longest frame (01, 'Numbers of no', 12).
 const FRAME_ROOM: usize = 73;
 
+// Microseconds: how long a frame waits for its GoodCRC, and the most that pass in one event (01, 'Start', 10).
+const WAIT: u32 = 1000;
+
+const LONGEST_PASS: u32 = 1000;
+
+// Kinds (01, 'Line code (PD)', table), and what stands for none in the status.
+const SOP: u8 = 0;
+
+const HARD_RESET: u8 = 5;
+
+const NO_KIND: u8 = 5;
+
+// Registers by their place among the cells: address less 2.
+const SWITCHES1: usize = 1;
+
+const CONTROL0: usize = 4;
+
+const CONTROL1: usize = 5;
+
+const CONTROL3: usize = 7;
+
+const MASK: usize = 8;
+
+const MASKA: usize = 12;
+
+const MASKB: usize = 13;
+
 pub struct Status {
     status0a: u8,
     crc_chk: bool,
@@ -95,7 +122,7 @@ pub struct Request {
 }
 
 pub struct Device {
-    cells: [u8; 15],
+    cells: [u8; Device::REGISTERS],
     tx: Queue,
     rx: Fifo,
     status: Status,
@@ -258,8 +285,11 @@ impl Ints {
 }
 
 impl Device {
-    // 01, 'Registers': the reset values of 02 to 10.
-    const RESETS: [u8; 15] = [
+    // 02 to 10
+    const REGISTERS: usize = 15;
+
+    // 01, 'Registers': the reset values.
+    const RESETS: [u8; Device::REGISTERS] = [
         0x03,
         0x20,
         0x31,
@@ -287,7 +317,7 @@ impl Device {
             status: Status {
                 status0a: 0,
                 crc_chk: false,
-                kind: 5,
+                kind: NO_KIND,
             },
             ints: Ints {
                 a: 0,
@@ -407,16 +437,16 @@ impl Device {
         ensures { λ r. ⌜ r ≡ not (intLow (view self)) ⌝ }
     {
         let cells = self.cells;
-        if has(INT_MASK, cells[4]) {
+        if has(INT_MASK, cells[CONTROL0]) {
             return true;
         }
-        if has(!cells[12], self.ints.a) {
+        if has(!cells[MASKA], self.ints.a) {
             return false;
         }
-        if has(!cells[13], self.ints.b) {
+        if has(!cells[MASKB], self.ints.b) {
             return false;
         }
-        !has(!cells[8], self.ints.main)
+        !has(!cells[MASK], self.ints.main)
     }
 
     // ---- reads
@@ -487,7 +517,7 @@ impl Device {
         ensures { λ r. ⌜ Sends (listed (flightIn (phaseOf (self .request .resetting)) (asked (self .request)) (queued (self .tx)))) (now (symbols .entry)) r (now (symbols .exit)) ⌝ }
     {
         if self.request.resetting {
-            return put_control(SOFT_RESET, 0, self.request.switches1, 0, symbols);
+            return put_control(SOFT_RESET, SOP, self.request.switches1, 0, symbols);
         }
         let tx = self.tx;
         put_message(tx, symbols)
@@ -507,7 +537,7 @@ impl Device {
         if self.request.hard {
             let sent = self.ints.a | I_HARDSENT;
             self.ints.a = sent;
-            let count = put(5, b"", symbols);
+            let count = put(HARD_RESET, b"", symbols);
             return self.done(count);
         }
         self.done(0)
@@ -527,7 +557,7 @@ impl Device {
             self.request.resetting = true;
             self.request.sent = 0;
             self.request.waited = waited;
-            let count = put_control(SOFT_RESET, 0, self.request.switches1, 0, symbols);
+            let count = put_control(SOFT_RESET, SOP, self.request.switches1, 0, symbols);
             return self.done(count);
         }
         self.request.active = false;
@@ -561,17 +591,17 @@ impl Device {
         if symbols.len() < FRAME_ROOM {
             return self.refuse(12);
         }
-        if 1000 < microseconds {
+        if LONGEST_PASS < microseconds {
             return self.refuse(10);
         }
         if self.request.active {
             let waited = self.request.waited as u32 + microseconds;
-            if waited < 1000 {
+            if waited < WAIT {
                 let so_far = waited as u16;
                 self.request.waited = so_far;
                 return self.done(0);
             }
-            return self.expire((waited - 1000) as u16, symbols);
+            return self.expire((waited - WAIT) as u16, symbols);
         }
         self.done(0)
     }
@@ -588,7 +618,7 @@ impl Device {
         let tx = self.tx;
         if tx.left == 0 {
             if octet == START {
-                return start_no(tx, self.cells[1]);
+                return start_no(tx, self.cells[SWITCHES1]);
             }
             if is_token(octet) {
                 return full_no(tx.len);
@@ -603,7 +633,7 @@ impl Device {
         ensures { λ r. ⌜ Refuses (view self) address value r ⌝ }
     {
         let tx = self.tx;
-        let switches1 = self.cells[1];
+        let switches1 = self.cells[SWITCHES1];
         match address {
             0x06 => {
                 if has(TX_START, value) {
@@ -656,10 +686,10 @@ impl Device {
         self.status.status0a = hidden;
         let request = Request {
             active: true,
-            switches1: cells[1],
-            retries: retries_of(cells[7]),
-            soft: has(AUTO_SOFTRESET, cells[7]),
-            hard: has(AUTO_HARDRESET, cells[7]),
+            switches1: cells[SWITCHES1],
+            retries: retries_of(cells[CONTROL3]),
+            soft: has(AUTO_SOFTRESET, cells[CONTROL3]),
+            hard: has(AUTO_HARDRESET, cells[CONTROL3]),
             resetting: false,
             sent: 0,
             waited: 0,
@@ -721,7 +751,7 @@ impl Device {
             self.status.status0a = hidden;
             let raised = self.ints.a | I_HARDSENT;
             self.ints.a = raised;
-            let count = put(5, b"", symbols);
+            let count = put(HARD_RESET, b"", symbols);
             return self.done(count);
         }
         self.done(0)
@@ -742,7 +772,7 @@ impl Device {
             let cleared = Status {
                 status0a: 0,
                 crc_chk: false,
-                kind: 5,
+                kind: NO_KIND,
             };
             self.status = cleared;
             return self.done(0);
@@ -793,7 +823,7 @@ impl Device {
         if self.request.active {
             if is_control(GOOD_CRC, packet) {
                 if self.request.resetting {
-                    return answers(0, 0, kind, packet);
+                    return answers(SOP, 0, kind, packet);
                 }
                 let tx = self.tx;
                 match tx.message() {
@@ -860,14 +890,15 @@ impl Device {
         ensures { λ r. ⌜ r ≡ repliesTo (now (packet .entry)) (view self) ⌝ }
     {
         let cells = self.cells;
-        if is_control(GOOD_CRC, packet) {
+        let acknowledges = is_control(GOOD_CRC, packet);
+        if acknowledges {
             return false;
         }
-        if has(AUTO_CRC, cells[1]) {
-            if has(AUTO_PRE, cells[4]) {
+        if has(AUTO_CRC, cells[SWITCHES1]) {
+            if has(AUTO_PRE, cells[CONTROL0]) {
                 return false;
             }
-            return driver_on(cells[1]);
+            return driver_on(cells[SWITCHES1]);
         }
         false
     }
@@ -887,7 +918,13 @@ impl Device {
         if replies {
             let raised = self.ints.b | I_GCRCSENT;
             self.ints.b = raised;
-            let count = put_control(GOOD_CRC, kind, self.cells[1], message_id(packet), symbols);
+            let count = put_control(
+                GOOD_CRC,
+                kind,
+                self.cells[SWITCHES1],
+                message_id(packet),
+                symbols,
+            );
             return self.done(count);
         }
         self.done(0)
@@ -914,7 +951,7 @@ impl Device {
         requires { ⌜ Arranged self × (kind < sopKinds) × (6 ≤ length (now packet)) × (length (now packet) ≤ 34) × (frameRoom ≤ length (now symbols)) ⌝ }
         ensures { λ r. ⌜ Does (hears kind (now (packet .entry)) (view self)) (now (symbols .entry)) r (now (symbols .exit)) ⌝ }
     {
-        if kind_on(kind, self.cells[5]) {
+        if kind_on(kind, self.cells[CONTROL1]) {
             if right(packet) {
                 return self.accept(kind, packet, symbols);
             }

@@ -6,7 +6,7 @@ ghost use lib.ListN.{length, drop, getD};
 ghost use Rattle.fusb302.specs.Held.{held, Sound};
 
 pub struct Fifo {
-    pub(crate) octets: [u8; 80],
+    pub(crate) octets: [u8; Fifo::CAPACITY],
     pub(crate) len: usize,
 }
 

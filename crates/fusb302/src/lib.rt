@@ -4,3 +4,7 @@ pub mod device;
 mod fifo;
 mod header;
 mod queue;
+
+pub use device::Device;
+pub use device::Outcome;
+pub use device::Reply;

@@ -54,7 +54,7 @@ pub(crate) fn is_token(octet: u8) -> bool
 
 // The octets written and not yet sent, and how many data octets of a counted block are still to come.
 pub struct Queue {
-    pub(crate) octets: [u8; 48],
+    pub(crate) octets: [u8; Queue::CAPACITY],
     pub(crate) len: usize,
     pub(crate) left: u8,
 }

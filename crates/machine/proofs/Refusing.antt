@@ -41,12 +41,15 @@ later : (r : Row) (rs : List Row) (o : Option ℕ) → r .applies ≡ false → 
 later r rs none e m = (e, m)
 later r rs (some n) e m =
     record {
-      before = r ∷ m .before;
-      here = m .here;
-      behind = m .behind;
-      is = ap (λ (l : List Row). r ∷ l) (m .is);
-      number = m .number;
-      applies = m .applies;
+      row =
+          record {
+            before = r ∷ m .row .before;
+            here = m .row .here;
+            behind = m .row .behind;
+            is = ap (λ (l : List Row). r ∷ l) (m .row .is);
+            number = m .row .number;
+            applies = m .row .applies;
+          };
       not-before = (e, m .not-before);
     }
 
@@ -56,7 +59,11 @@ first-means [] = tt
 first-means (r ∷ rs) = go (r .applies) refl (first-means rs)
   where
     go : (b : Bool) → r .applies ≡ b → Means rs (firstNo rs) → Means (r ∷ rs) (cond b (some (r .number)) (firstNo rs))
-    go true e m = record { before = []; here = r; behind = rs; is = refl; number = refl; applies = e; not-before = tt }
+    go true e m =
+        record {
+          row = record { before = []; here = r; behind = rs; is = refl; number = refl; applies = e };
+          not-before = tt;
+        }
     go false e m = later r rs (firstNo rs) e m
 
 passed : (before rows : List Row) → NoneApplies before → firstNo (before ++ rows) ≡ firstNo rows
@@ -72,7 +79,8 @@ none-first (r ∷ rows) n = rw (n .0) (none-first rows (n .1))
 some-first : (rows : List Row) (n : ℕ) → FirstToApply n rows → firstNo rows ≡ some n
 unfolding firstNo
 some-first rows n f =
-    ap firstNo (f .is) ∙ passed (f .before) (f .here ∷ f .behind) (f .not-before) ∙ rw (f .applies, f .number)
+    let row = f .row in
+    ap firstNo (row .is) ∙ passed (row .before) (row .here ∷ row .behind) (f .not-before) ∙ rw (row .applies, row .number)
 
 pub first-none-exactly : (rows : List Row) → (firstNo rows ≡ none) ↔ NoneApplies rows
 first-none-exactly rows = (λ e. rw e at (first-means rows), none-first rows)

@@ -25,19 +25,14 @@ use Rattle.machine.specs.Registers.{
   PD-RESET,
   SW-RES,
 }
-use Rattle.machine.specs.State.{State, powerUp, cleared, reg, withCells, withTx, withRx, withStatus, withInts}
+use Rattle.machine.specs.State.{State, powerUp, cleared, reg, withCells, withTx, withRx, withStatus, withInts, raises}
 use Rattle.machine.specs.Status.{txFull, I-ALERT, shown, clearedAt}
-use Rattle.machine.specs.State.{raises}
 use Rattle.machine.specs.Requests.{Effect, silent, over, start, sendHardReset, hardResetHeard, passes}
 use Rattle.machine.specs.Packets.{when, hears}
 use Rattle.machine.specs.Events.{Event, write, read, pass, hardReset, packet, Reply, done, value, no}
 use Rattle.machine.specs.Refusals.{portStart, refusal}
 
 -- ---- writes
-
--- everything as after power-up
-unfoldable pub restored : State → State
-restored s = powerUp
 
 -- both FIFOs empty, no request, 3C, 3D, CRC_CHK and the RXSOP bits cleared
 unfoldable pub pdReset : State → State
@@ -56,9 +51,9 @@ control1Written v s = silent (when (has RX-FLUSH v) (withRx []) s)
 unfoldable pub control3Written : ℕ → State → Effect
 control3Written v s = cond (has SEND-HARD-RESET v) (sendHardReset s) (silent s)
 
--- SW_RES wins over PD_RESET
+-- SW_RES restores power-up and wins over PD_RESET
 unfoldable pub resetWritten : ℕ → State → Effect
-resetWritten v s = silent (cond (has SW-RES v) (restored s) (when (has PD-RESET v) pdReset s))
+resetWritten v s = silent (cond (has SW-RES v) powerUp (when (has PD-RESET v) pdReset s))
 
 unfoldable pub portWritten : ℕ → State → Effect
 portWritten v s = cond (portStart s fifos v) (start s) (silent (queues v s))

@@ -59,15 +59,19 @@ abbrev pub NoneApplies : List Row → Type 0
 NoneApplies [] = Unit {0}
 NoneApplies (r ∷ rs) = (r .applies ≡ false) × NoneApplies rs
 
--- a row with this number applies, and none before it does
-pub record FirstToApply (n : ℕ) (rows : List Row) : Type 0 where
+-- a row with this number applies
+pub record Applies (n : ℕ) (rows : List Row) : Type 0 where
   pub before : List Row
   pub here : Row
   pub behind : List Row
   pub is : rows ≡ before ++ (here ∷ behind)
   pub number : here .number ≡ n
   pub applies : here .applies ≡ true
-  pub not-before : NoneApplies before
+
+-- and none before it does
+pub record FirstToApply (n : ℕ) (rows : List Row) : Type 0 where
+  pub row : Applies n rows
+  pub not-before : NoneApplies (row .before)
 
 abbrev pub RefusedExactly : Type 0
 RefusedExactly = (s : State) (e : Event) (n : ℕ) → (step s e .reply ≡ no n) ↔ FirstToApply n (table s e)
@@ -95,15 +99,6 @@ pub record EachNumberGiven : Type 0 where
   pub no-11 : Given 11
   pub no-9 : Given 9
   pub no-10 : Given 10
-
--- a row with this number applies
-pub record Applies (n : ℕ) (rows : List Row) : Type 0 where
-  pub before : List Row
-  pub here : Row
-  pub behind : List Row
-  pub is : rows ≡ before ++ (here ∷ behind)
-  pub number : here .number ≡ n
-  pub applies : here .applies ≡ true
 
 -- two rows apply to an event after some history, and the first number is given
 pub record GivenBefore (n m : ℕ) : Type 0 where
