@@ -37,6 +37,7 @@ use Rattle.machine.specs.Requests.{Effect, silent, sendsIf, hardReset, retriesO
 use Rattle.machine.specs.Packets.{when}
 use Rattle.machine.specs.Events.{write}
 use Rattle.machine.specs.Step.{
+  restored,
   pdReset,
   queues,
   control0Written,
@@ -242,7 +243,7 @@ module _ (d : Device) (arranged : Arranged d) where
 
   module _ (v : ℕ) where
     pub reset-restores : has SW-RES v ≡ true → (t : Device) → PoweredUp t → DoesQuietly (resetWritten v (view d)) (done t 0)
-    unfolding resetWritten
+    unfolding resetWritten restored
     reset-restores h t p = rw h (hushed _ t (p .asks .arranged) (p .new))
 
     module _ (h : has SW-RES v ≡ false) where

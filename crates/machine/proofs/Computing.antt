@@ -14,7 +14,7 @@ use Rattle.machine.specs.Headers.{header, twoOctets, isControl}
 use Rattle.machine.specs.Requests.{driverOn, flightIn, retriesOf, latched, start, sendHardReset, hardResetHeard, messageFails, softFails, fails, expires, elapses, passes}
 use Rattle.machine.specs.Packets.{kindOn, awaitedBy, repliesTo, keeps, stores, accepts, hears}
 use Rattle.machine.specs.Refusals.{txStart, portStart, starts, sendsReset, toBeStored, queueAt, no12, no1, no2, no6, no3, no5, no4, no7, no8, no11, no9, no10, refusal}
-use Rattle.machine.specs.Step.{pdReset, queues, control0Written, control1Written, control3Written, resetWritten, portWritten, commands, writes, readValue, afterRead, accepted, replyTo, resultOf, step, after, replies, frames}
+use Rattle.machine.specs.Step.{restored, pdReset, queues, control0Written, control1Written, control3Written, resetWritten, portWritten, commands, writes, readValue, afterRead, accepted, replyTo, resultOf, step, after, replies, frames}
 
 unfoldable pub computed : Unit {0}
 unfolding symbolOf placeOf nibbleOf isNibble line-spelt octetsOf setOf carries poly crcBit crcBits crcOctet crcFrom crcOf
@@ -23,6 +23,6 @@ unfolding symbolOf placeOf nibbleOf isNibble line-spelt octetsOf setOf carries p
     status0Of status1Of clearedAt setSymbol announced isToken toCome inside speltBy spelt header twoOctets isControl driverOn
     flightIn retriesOf latched start sendHardReset hardResetHeard messageFails softFails fails expires elapses passes kindOn
     awaitedBy repliesTo keeps stores accepts hears txStart portStart starts sendsReset toBeStored queueAt no12 no1 no2 no6 no3 no5
-    no4 no7 no8 no11 no9 no10 refusal pdReset queues control0Written control1Written control3Written resetWritten
+    no4 no7 no8 no11 no9 no10 refusal restored pdReset queues control0Written control1Written control3Written resetWritten
     portWritten commands writes readValue afterRead accepted replyTo resultOf step after replies frames
 computed = tt

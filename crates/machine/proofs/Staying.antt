@@ -101,6 +101,7 @@ use Rattle.machine.specs.Refusals.{
   refusal,
 }
 use Rattle.machine.specs.Step.{
+  restored,
   pdReset,
   queues,
   control0Written,
@@ -340,7 +341,7 @@ module _ (s : State) (g : Good s) (room v : ℕ) (octet : v < 256) where
       flushed false h = h
 
   commands-fine : (a : ℕ) → NoneApplies (table s (write room a v)) → Fine (commands a v (withCells (stored a v (s .cells)) s))
-  unfolding commands control1Written control3Written sendHardReset resetWritten pdReset
+  unfolding commands control1Written control3Written sendHardReset resetWritten restored pdReset
   commands-fine a rows =
       let t = kept-cells a in
       by-test (eqb a control0) _ _

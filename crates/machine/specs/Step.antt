@@ -34,6 +34,10 @@ use Rattle.machine.specs.Refusals.{portStart, refusal}
 
 -- ---- writes
 
+-- everything as after power-up
+unfoldable pub restored : State → State
+restored s = powerUp
+
 -- both FIFOs empty, no request, 3C, 3D, CRC_CHK and the RXSOP bits cleared
 unfoldable pub pdReset : State → State
 pdReset s = withRx [] (withStatus cleared (over s))
@@ -51,9 +55,9 @@ control1Written v s = silent (when (has RX-FLUSH v) (withRx []) s)
 unfoldable pub control3Written : ℕ → State → Effect
 control3Written v s = cond (has SEND-HARD-RESET v) (sendHardReset s) (silent s)
 
--- SW_RES restores power-up and wins over PD_RESET
+-- SW_RES wins over PD_RESET
 unfoldable pub resetWritten : ℕ → State → Effect
-resetWritten v s = silent (cond (has SW-RES v) powerUp (when (has PD-RESET v) pdReset s))
+resetWritten v s = silent (cond (has SW-RES v) (restored s) (when (has PD-RESET v) pdReset s))
 
 unfoldable pub portWritten : ℕ → State → Effect
 portWritten v s = cond (portStart s fifos v) (start s) (silent (queues v s))
