@@ -12,7 +12,8 @@ use Rattle.line.specs.Frame.{joined}
 use Rattle.line.specs.Write.{frameRoom}
 use Rattle.machine.specs.Registers.{resets, cell, fifos, deviceId, status0a, interrupta, interruptb, interrupt, isStored, readOnly, exists}
 use Rattle.machine.specs.Status.{shown, clearedAt}
-use Rattle.machine.specs.State.{powerUp, withInts, withRx}
+use Rattle.machine.specs.State as machine
+use Rattle.machine.specs.State.{powerUp, cleared, withRx, withStatus, withInts}
 use Rattle.machine.specs.Good.{Good}
 use Rattle.machine.specs.Requests.{hardResetHeard}
 use Rattle.machine.specs.Events.{read, hardReset, value}
@@ -24,12 +25,13 @@ use Rattle.fusb302.specs.declared.bits.Place.the-variants.{Id, Stored, S
 use Rattle.fusb302.specs.declared.queue.Queue.{Queue}
 use Rattle.fusb302.specs.declared.fifo.Fifo.{Fifo}
 use Rattle.fusb302.specs.declared.device.Device.{Device}
+use Rattle.fusb302.specs.declared.device.Status.{Status}
 use Rattle.fusb302.specs.declared.device.Ints.{Ints}
 use Rattle.fusb302.specs.declared.device.Reply.the-variants.{Done, Value, No}
 use Rattle.fusb302.specs.Places.{Placed}
 use Rattle.fusb302.specs.Queued.{queued}
 use Rattle.fusb302.specs.Held.{held, Sound}
-use Rattle.fusb302.specs.View.{intsOf, view, Arranged, Asks, PoweredUp}
+use Rattle.fusb302.specs.View.{statusOf, intsOf, view, Arranged, Asks, PoweredUp}
 use Rattle.fusb302.specs.Serves.{Serves, PortRead}
 use Rattle.fusb302.proofs.Serving.{serves-no, serves-yes}
 use Rattle.fusb302.proofs.Showing.{held-length}
@@ -109,14 +111,14 @@ at-shown a lo hi =
 
 -- ---- power-up
 
-module _ (tx : Queue) (rx : Fifo) (no-tx : queued tx ≡ []) (no-rx : held rx ≡ []) where
+module _ (tx : Queue) (rx : Fifo) (x : Status) (no-tx : queued tx ≡ []) (no-rx : held rx ≡ []) (none-shown : statusOf x ≡ cleared) where
   abbrev pub fresh : Device
   fresh =
       record {
         cells = resets;
         tx = tx;
         rx = rx;
-        status = record { status0a = 0; «crc_chk» = false; kind = 5 };
+        status = x;
         ints = record { a = 0; b = 0; main = 0 };
         request =
             record {
@@ -133,7 +135,7 @@ module _ (tx : Queue) (rx : Fifo) (no-tx : queued tx ≡ []) (no-rx : held rx �
 
   pub powered : Arranged fresh → PoweredUp fresh
   powered h =
-      let new : view fresh ≡ powerUp = rw (no-tx, no-rx) refl in
+      let new : view fresh ≡ powerUp = rw (no-tx, no-rx) (ap (λ (y : machine.Status). withStatus y powerUp) none-shown) in
       record { asks = record { arranged = h; good = subst Good (sym new) power-up-good }; new = new }
 
 -- ---- the port

@@ -6,8 +6,7 @@ use mathlib.Core.List.{List, [], _∷_, _++_}
 use mathlib.Core.Option.{Option, none, some}
 use Prim.Native.Nat.{ℕ, zero, suc, _+_, _-_, _*_, _/_, _%_, _<_, _≤_}
 use native.Mathlib.Omega.{arith}
-use borrow.Author.Tests.{lt-ltb, le-ltb, le-leb, lt-leb, leb-true}
-use lib.Bits.{bitOr, or-zero-r}
+use borrow.Author.Tests.{lt-ltb, le-ltb, le-leb, lt-leb, leb-true, eq-eqb, ne-eqb}
 use lib.Dec.{eqb}
 use lib.ListN.{length, take, drop, getD, length-take}
 use Rattle.line.specs.Kind.{sopKinds}
@@ -16,10 +15,10 @@ use Rattle.line.specs.Frame.{Frame, Octets}
 use Rattle.line.specs.Write.{frameRoom}
 use Rattle.machine.specs.Registers.{cell, has, AUTO-CRC, AUTO-PRE}
 use Rattle.machine.specs.Headers.{GoodCRC, Soft-Reset, header, twoOctets, control, messageId, isControl}
-use Rattle.machine.specs.State.{State, withRx, withKind, withInts, raisesB, raises}
-use Rattle.machine.specs.Status.{rxRoom, rxFull, flag, SOFTRST, I-SOFTRST, I-TXSENT, I-GCRCSENT, I-ALERT}
+use Rattle.machine.specs.State.{State, withRx, withKind, shows, raisesA, raisesB, raises}
+use Rattle.machine.specs.Status.{rxRoom, SOFTRST, I-SOFTRST, I-TXSENT, I-GCRCSENT, I-ALERT}
 use Rattle.machine.specs.Queue.{spelt}
-use Rattle.machine.specs.Requests.{Effect, silent, driverOn, flightIn, flight, acknowledged}
+use Rattle.machine.specs.Requests.{Effect, silent, driverOn, flightIn, flight, over, acknowledged}
 use Rattle.machine.specs.Packets.{
   enables,
   kindOn,
@@ -42,20 +41,20 @@ use Rattle.machine.specs.Events.{Event, packet}
 use Rattle.machine.specs.Step.{accepted, replyTo}
 use Rattle.machine.proofs.Checking.{packet-checks}
 use Rattle.machine.proofs.Spelling.{spelt-exactly}
-use Rattle.fusb302.specs.declared.queue.Queue.{Queue}
 use Rattle.fusb302.specs.declared.queue.Message.{Message}
 use Rattle.fusb302.specs.declared.queue.Message.the-variants.{Spelt, Nothing}
 use Rattle.fusb302.specs.declared.fifo.Fifo.{Fifo}
 use Rattle.fusb302.specs.declared.device.Device.{Device}
 use Rattle.fusb302.specs.declared.device.Reply.the-variants.{Done, No}
 use Rattle.fusb302.specs.declared.device.Outcome.{Outcome}
-use Rattle.fusb302.specs.Queued.{queued, Kept, speltAs}
+use Rattle.fusb302.specs.Queued.{queued, speltAs}
 use Rattle.fusb302.specs.Held.{held, Sound}
 use Rattle.fusb302.specs.View.{asked, view, Arranged, Asks}
 use Rattle.fusb302.specs.Serves.{replied, Becomes, Sends, Does, Serves}
 use Rattle.fusb302.proofs.Serving.{serves-no, serves-yes}
 use Rattle.fusb302.proofs.Showing.{held-length}
 use Rattle.fusb302.proofs.Sending.{sends-none, spelt-in-array}
+use Rattle.fusb302.proofs.Becoming.{done, and-then, silently, sending}
 
 -- ---- the GoodCRC that is awaited
 
@@ -138,111 +137,65 @@ module _ (d : Device) (arranged : Arranged d) (b : Bool) where
   pub not-noted : b ≡ false → (f : State → State) → Becomes (when b f (view d)) d
   not-noted e f = rw e (record { state = refl; arranged = arranged })
 
-  pub ends-request : b ≡ true → (tx : Queue) → Kept tx × (queued tx ≡ [])
-      → Becomes (when b acknowledged (view d))
-      (record {
-        cells = d .cells;
-        tx = tx;
-        rx = d .rx;
-        status = d .status;
-        ints = record { a = bitOr (d .ints .a) I-TXSENT; b = d .ints .b; main = d .ints .main };
-        request =
-            record {
-              active = false;
-              switches1 = d .request .switches1;
-              retries = d .request .retries;
-              soft = d .request .soft;
-              hard = d .request .hard;
-              resetting = d .request .resetting;
-              sent = d .request .sent;
-              waited = d .request .waited;
-            };
-      })
-  ends-request e tx empty =
-      rw e (record { state = rw (empty .1) refl; arranged = record { cells = arranged .cells; tx = empty .0; rx = arranged .rx } })
+  pub ends-request : b ≡ true → (t u : Device) → Becomes (over (view d)) t → Becomes (raisesA I-TXSENT (view t)) u
+      → Becomes (when b acknowledged (view d)) u
+  ends-request e t u x y = rw e (and-then _ t x (raisesA I-TXSENT) u y)
 
-  pub shows-reset : b ≡ true
-      → Becomes (when b softResetHeard (view d))
-      (record {
-        cells = d .cells;
-        tx = d .tx;
-        rx = d .rx;
-        status = record { status0a = bitOr (d .status .status0a) SOFTRST; «crc_chk» = d .status .«crc_chk»; kind = d .status .kind };
-        ints = record { a = bitOr (d .ints .a) I-SOFTRST; b = d .ints .b; main = d .ints .main };
-        request = d .request;
-      })
-  shows-reset e =
-      rw e (record { state = refl; arranged = record { cells = arranged .cells; tx = arranged .tx; rx = arranged .rx } })
+  pub shows-reset : b ≡ true → (t u : Device) → Becomes (shows SOFTRST (view d)) t → Becomes (raisesA I-SOFTRST (view t)) u
+      → Becomes (when b softResetHeard (view d)) u
+  shows-reset e t u x y = rw e (and-then _ t x (raisesA I-SOFTRST) u y)
 
 -- ---- what is stored
 
-module _ (d : Device) (arranged : Arranged d) (k : ℕ) (sop : k < sopKinds) (m : List ℕ) (rx : Fifo) (token : ℕ) (is : token ≡ rxToken k)
-    (stored : Sound rx × (held rx ≡ held (d .rx) ++ (token ∷ m))) (x : ℕ) (full : Bool) (tested : full ≡ eqb (rx .len) rxRoom)
-    (flagged : x ≡ flag I-ALERT full) where
-  -- the packet in Rx, and what is set in 3F
-  abbrev kept : ℕ → Device
-  kept b =
+module _ (d : Device) (arranged : Arranged d) (k : ℕ) (sop : k < sopKinds) (m : List ℕ) (token : ℕ) (is : token ≡ rxToken k) (rx : Fifo)
+    (stored : Sound rx × (held rx ≡ held (d .rx) ++ (token ∷ m))) where
+  -- the packet in Rx
+  abbrev longer : Device
+  longer =
       record {
         cells = d .cells;
         tx = d .tx;
         rx = rx;
         status = record { status0a = d .status .status0a; «crc_chk» = d .status .«crc_chk»; kind = k };
-        ints = record { a = d .ints .a; b = b; main = bitOr (d .ints .main) x };
+        ints = d .ints;
         request = d .request;
       }
 
-  abbrev longer : State
-  longer = withKind k (withRx (held (d .rx) ++ (rxToken k ∷ m)) (view d))
+  abbrev octets : List ℕ
+  octets = held (d .rx) ++ (rxToken k ∷ m)
 
-  abbrev alerted : ℕ → ℕ → State
-  alerted b main = withInts (record { a = d .ints .a; b = b; main = main }) longer
-
-  holds : held rx ≡ held (d .rx) ++ (rxToken k ∷ m)
+  holds : held rx ≡ octets
   holds = stored .1 ∙ ap (λ (t : ℕ). held (d .rx) ++ (t ∷ m)) is
 
-  is-full : rxFull longer ≡ full
-  is-full = ap (λ (n : ℕ). eqb n rxRoom) (sym (ap length holds) ∙ held-length rx (stored .0)) ∙ sym tested
+  counted : length octets ≡ rx .len
+  counted = sym (ap length holds) ∙ held-length rx (stored .0)
 
-  seen : (b : ℕ) → view (kept b) ≡ alerted b (bitOr (d .ints .main) (flag I-ALERT full))
-  seen b = rw (lt-ltb k sopKinds sop, holds, flagged) refl
+  is-longer : Becomes (withKind k (withRx octets (view d))) longer
+  is-longer =
+      record {
+        state = rw (lt-ltb k sopKinds sop, holds) refl;
+        arranged = record { cells = arranged .cells; tx = arranged .tx; rx = stored .0 };
+      }
 
-  raised : (f : Bool) → alerted (d .ints .b) (bitOr (d .ints .main) (flag I-ALERT f)) ≡ when f (raises I-ALERT) longer
-  raised true = refl
-  raised false = ap (alerted (d .ints .b)) (or-zero-r (d .ints .main))
+  pub keeps-on : (rx .len ≡ rxRoom → ⊥) → Becomes (keeps k m (view d)) longer
+  unfolding keeps
+  keeps-on h = rw (counted, ne-eqb (rx .len) rxRoom h) is-longer
 
-  raised-b : (f : Bool)
-      → alerted (bitOr (d .ints .b) I-GCRCSENT) (bitOr (d .ints .main) (flag I-ALERT f)) ≡ raisesB I-GCRCSENT (when f (raises I-ALERT) longer)
-  raised-b true = refl
-  raised-b false = ap (alerted (bitOr (d .ints .b) I-GCRCSENT)) (or-zero-r (d .ints .main))
+  pub keeps-full : rx .len ≡ rxRoom → (u : Device) → Becomes (raises I-ALERT (view longer)) u → Becomes (keeps k m (view d)) u
+  unfolding keeps
+  keeps-full h u x = rw (counted, eq-eqb (rx .len) rxRoom h) (and-then _ longer is-longer (raises I-ALERT) u x)
 
-  in-place : (b : ℕ) → Arranged (kept b)
-  in-place b = record { cells = arranged .cells; tx = arranged .tx; rx = stored .0 }
+module _ (d : Device) (k : ℕ) (m : List ℕ) (t : Device) (kept : Becomes (keeps k m (view d)) t) (before : List ℕ) where
+  pub stores-only : repliesTo m (view d) ≡ false → Does (stores k m (view d)) before (done t 0) before
+  unfolding stores
+  stores-only e = rw e (silently _ t kept before)
 
-  pub stores-only : repliesTo m (view d) ≡ false → (before : List ℕ)
-      → Does (stores k m (view d)) before (record { device = kept (d .ints .b); reply = Done; count = 0 }) before
-  unfolding stores keeps
-  stores-only e before =
-      rw e
-      (record {
-        state = seen (d .ints .b) ∙ raised full ∙ ap (λ (f : Bool). when f (raises I-ALERT) longer) (sym is-full);
-        arranged = in-place _;
-        reply = refl;
-        sends = sends-none before;
-      })
-
-  pub stores-replies : repliesTo m (view d) ≡ true → (before : List ℕ) (n : ℕ) (after : List ℕ)
+  pub stores-replies : repliesTo m (view d) ≡ true → (u : Device) → Becomes (raisesB I-GCRCSENT (view t)) u → (n : ℕ) (after : List ℕ)
       → Sends (control GoodCRC k (getD (d .cells) 1 0) (messageId m) ∷ []) before n after
-      → Does (stores k m (view d)) before (record { device = kept (bitOr (d .ints .b) I-GCRCSENT); reply = Done; count = n }) after
-  unfolding stores keeps cell
-  stores-replies e before n after sent =
-      rw e
-      (record {
-        state = seen (bitOr (d .ints .b) I-GCRCSENT) ∙ raised-b full
-            ∙ ap (λ (f : Bool). raisesB I-GCRCSENT (when f (raises I-ALERT) longer)) (sym is-full);
-        arranged = in-place _;
-        reply = refl;
-        sends = sent;
-      })
+      → Does (stores k m (view d)) before (done u n) after
+  unfolding stores cell
+  stores-replies e u x n after sent =
+      rw e (sending _ u (and-then _ t kept (raisesB I-GCRCSENT) u x) before n after (control GoodCRC k (getD (d .cells) 1 0) (messageId m)) sent)
 
 -- ---- a packet whose CRC is right
 
@@ -274,29 +227,14 @@ module _ (d a b c : Device) (k : ℕ) (m : List ℕ) (w r : Bool) (awaits : w �
       ∙ ap (λ (v : Bool). cond v (stores k m (view c)) (silent (raises I-ALERT (view c)))) e in
       subst (λ (y : Effect). Does y before o after) (sym same) x
 
-  pub accepts-full : hasRoom m (view c) ≡ false → (before : List ℕ)
-      → Does (accepts k m (view d)) before
-      (record {
-        device =
-            record {
-              cells = c .cells;
-              tx = c .tx;
-              rx = c .rx;
-              status = c .status;
-              ints = record { a = c .ints .a; b = c .ints .b; main = bitOr (c .ints .main) I-ALERT };
-              request = c .request;
-            };
-        reply = Done;
-        count = 0;
-      }) before
+  pub accepts-full : hasRoom m (view c) ≡ false → (u : Device) → Becomes (raises I-ALERT (view c)) u → (before : List ℕ)
+      → Does (accepts k m (view d)) before (done u 0) before
   unfolding accepts
-  accepts-full e before =
+  accepts-full e u x before =
       let same : accepts k m (view d) ≡ silent (raises I-ALERT (view c)) =
       ap (λ (t : State). cond (hasRoom m t) (stores k m t) (silent (raises I-ALERT t))) (sym is-noted)
       ∙ ap (λ (v : Bool). cond v (stores k m (view c)) (silent (raises I-ALERT (view c)))) e in
-      let g = shown .arranged in
-      rw same
-      (record { state = refl; arranged = record { cells = g .cells; tx = g .tx; rx = g .rx }; reply = refl; sends = sends-none before })
+      rw same (silently _ u x before)
 
 -- ---- a packet heard
 

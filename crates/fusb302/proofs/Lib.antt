@@ -6,6 +6,7 @@ pub mod Serving
 pub mod Showing
 pub mod Answering
 pub mod Sending
+pub mod Becoming
 pub mod Waiting
 pub mod Refusing
 pub mod Writing

@@ -1,26 +1,27 @@
 -- What time does to an open request: the effect of each way out.
 -- Assumes nothing.
 use mathlib.Core.Path.{_≡_, refl, sym, ap, _∙_, subst}
-use mathlib.Core.Bool.{Bool, true, false}
+use mathlib.Core.Bool.{Bool, true, false, cond}
 use mathlib.Core.List.{List, [], _∷_}
 use mathlib.Core.Option.{Option, none, some}
 use Prim.Native.Nat.{ℕ, _+_, _-_, _<_, _≤_}
 use native.Mathlib.Numerals.{add-one}
 use native.Mathlib.Omega.{arith}
 use borrow.Author.Tests.{lt-ltb, le-ltb}
-use lib.Bits.{bitOr}
 use lib.ListN.{length}
-use Rattle.line.specs.Frame.{Frame}
 use Rattle.line.specs.Write.{frameRoom}
 use Rattle.machine.specs.State as machine
-use Rattle.machine.specs.State.{State}
+use Rattle.machine.specs.State.{State, softReset, withRequest, shows, raisesA}
 use Rattle.machine.specs.Status.{SOFTFAIL, RETRYFAIL, I-SOFTFAIL, I-RETRYFAIL, I-HARDSENT}
 use Rattle.machine.specs.Requests.{
-  sendsIf,
+  silent,
+  sends,
   hardReset,
   softResetOf,
   flightIn,
   flight,
+  over,
+  goesOn,
   messageFails,
   softFails,
   fails,
@@ -31,118 +32,78 @@ use Rattle.machine.specs.Requests.{
 use Rattle.machine.specs.Events.{pass}
 use Rattle.machine.specs.Step.{accepted, replyTo}
 use Rattle.machine.proofs.Checking.{pass-checks}
-use Rattle.fusb302.specs.declared.queue.Queue.{Queue}
 use Rattle.fusb302.specs.declared.device.Device.{Device}
 use Rattle.fusb302.specs.declared.device.Request.{Request}
 use Rattle.fusb302.specs.declared.device.Reply.the-variants.{Done, No}
 use Rattle.fusb302.specs.declared.device.Outcome.{Outcome}
-use Rattle.fusb302.specs.Queued.{queued, Kept}
+use Rattle.fusb302.specs.Queued.{queued}
 use Rattle.fusb302.specs.View.{phaseOf, asked, requestOf, view, Arranged, Asks}
-use Rattle.fusb302.specs.Serves.{replied, Sends, Does, listed, Serves}
+use Rattle.fusb302.specs.Serves.{replied, listed, Becomes, Sends, Does, Serves}
 use Rattle.fusb302.proofs.Serving.{serves-no, serves-yes}
-use Rattle.fusb302.proofs.Sending.{sends-none}
+use Rattle.fusb302.proofs.Becoming.{done, itself, and-then, silently, sending, if-sending}
 
--- a request that goes on, or not
-abbrev moved : Request → Bool → Bool → ℕ → ℕ → Request
-moved q active resetting sent waited =
-    record {
-      active = active;
-      switches1 = q .switches1;
-      retries = q .retries;
-      soft = q .soft;
-      hard = q .hard;
-      resetting = resetting;
-      sent = sent;
-      waited = waited;
-    }
+-- ---- a request that goes on
 
-abbrev closed : Request → Request
-closed q = moved q false (q .resetting) (q .sent) (q .waited)
+-- an open request that became another is open as that
+pub open-as : (q r : Request) (x : machine.Request) → q .active ≡ true → (r .active ≡ q .active) × (asked r ≡ x) → requestOf r ≡ some x
+open-as q r x active h = ap (λ (b : Bool). cond b (some (asked r)) none) (h .0 ∙ active) ∙ ap some (h .1)
+
+module _ (s : State) (t : Device) (is : Becomes s t) (q r : Request) (x : machine.Request) (active : q .active ≡ true)
+    (goes : (r .active ≡ q .active) × (asked r ≡ x)) (u : Device) (h : Becomes (withRequest (requestOf r) (view t)) u) where
+  pub goes-on : Becomes (withRequest (some x) s) u
+  goes-on =
+      and-then s t is (withRequest (some x)) u (subst (λ o. Becomes (withRequest o (view t)) u) (open-as q r x active goes) h)
 
 -- ---- failures
 
-module _ (d : Device) (arranged : Arranged d) (tx : Queue) (empty : Kept tx × (queued tx ≡ [])) (before : List ℕ) where
-  -- the queue empty, bits set in 3C and 3E, and another request
-  abbrev failed : ℕ → ℕ → Request → Device
-  failed m i q =
-      record {
-        cells = d .cells;
-        tx = tx;
-        rx = d .rx;
-        status = record { status0a = bitOr (d .status .status0a) m; «crc_chk» = d .status .«crc_chk»; kind = d .status .kind };
-        ints = record { a = i; b = d .ints .b; main = d .ints .main };
-        request = q;
-      }
+module _ (d t : Device) (before : List ℕ) where
+  module _ (failed : Becomes (raisesA I-SOFTFAIL (shows SOFTFAIL (over (view d)))) t) where
+    pub soft-ends : d .request .hard ≡ false → Does (softFails (asked (d .request)) (view d)) before (done t 0) before
+    unfolding softFails
+    soft-ends e = rw e (silently _ t failed before)
 
-  still : (m i : ℕ) (q : Request) → Arranged (failed m i q)
-  still m i q = record { cells = arranged .cells; tx = empty .0; rx = arranged .rx }
+    pub soft-hard : d .request .hard ≡ true → (u : Device) → Becomes (raisesA I-HARDSENT (view t)) u → (n : ℕ) (after : List ℕ)
+        → Sends (hardReset ∷ []) before n after → Does (softFails (asked (d .request)) (view d)) before (done u n) after
+    unfolding softFails
+    soft-hard e u h n after sent = rw e (sending _ u (and-then _ t failed (raisesA I-HARDSENT) u h) before n after hardReset sent)
 
-  pub soft-ends : d .request .hard ≡ false
-      → Does (softFails (asked (d .request)) (view d)) before
-      (record { device = failed SOFTFAIL (bitOr (d .ints .a) I-SOFTFAIL) (closed (d .request)); reply = Done; count = 0 }) before
-  unfolding softFails
-  soft-ends e =
-      rw e (record { state = rw (empty .1) refl; arranged = still _ _ _; reply = refl; sends = sends-none before })
+  module _ (w : ℕ) (failed : Becomes (raisesA I-RETRYFAIL (shows RETRYFAIL (over (view d)))) t) where
+    pub message-ends : d .request .soft ≡ false → Does (messageFails w (asked (d .request)) (view d)) before (done t 0) before
+    unfolding messageFails
+    message-ends e = rw e (silently _ t failed before)
 
-  pub soft-hard : d .request .hard ≡ true → (n : ℕ) (after : List ℕ) → Sends (hardReset ∷ []) before n after
-      → Does (softFails (asked (d .request)) (view d)) before
-      (record { device = failed SOFTFAIL (bitOr (bitOr (d .ints .a) I-SOFTFAIL) I-HARDSENT) (closed (d .request)); reply = Done; count = n }) after
-  unfolding softFails
-  soft-hard e n after sent = rw e (record { state = rw (empty .1) refl; arranged = still _ _ _; reply = refl; sends = sent })
-
-  pub message-ends : d .request .soft ≡ false → (w : ℕ)
-      → Does (messageFails w (asked (d .request)) (view d)) before
-      (record { device = failed RETRYFAIL (bitOr (d .ints .a) I-RETRYFAIL) (closed (d .request)); reply = Done; count = 0 }) before
-  unfolding messageFails
-  message-ends e w =
-      rw e (record { state = rw (empty .1) refl; arranged = still _ _ _; reply = refl; sends = sends-none before })
-
-  pub message-soft : d .request .soft ≡ true → d .request .active ≡ true → (w n : ℕ) (after : List ℕ)
-      → Sends (softResetOf (asked (d .request)) ∷ []) before n after
-      → Does (messageFails w (asked (d .request)) (view d)) before
-      (record {
-        device = failed RETRYFAIL (bitOr (d .ints .a) I-RETRYFAIL) (moved (d .request) (d .request .active) true 0 w);
-        reply = Done;
-        count = n;
-      }) after
-  unfolding messageFails
-  message-soft e active w n after sent =
-      rw e (record { state = rw (empty .1, active) refl; arranged = still _ _ _; reply = refl; sends = sent })
+    pub message-soft : d .request .soft ≡ true → d .request .active ≡ true → (q : Request)
+        → (q .active ≡ d .request .active) × (asked q ≡ goesOn softReset 0 w (asked (d .request)))
+        → (u : Device) → Becomes (withRequest (requestOf q) (view t)) u → (n : ℕ) (after : List ℕ)
+        → Sends (softResetOf (asked (d .request)) ∷ []) before n after
+        → Does (messageFails w (asked (d .request)) (view d)) before (done u n) after
+    unfolding messageFails
+    message-soft e active q goes u h n after sent =
+        let over-now = raisesA I-RETRYFAIL (shows RETRYFAIL (over (view d))) in
+        let soft = sends (softResetOf (asked (d .request))) (withRequest (some (goesOn softReset 0 w (asked (d .request)))) over-now) in
+        subst (λ (b : Bool). Does (cond b soft (silent over-now)) before (done u n) after) (sym e)
+        (sending _ u (goes-on over-now t failed (d .request) q _ active goes u h) before n after (softResetOf (asked (d .request))) sent)
 
 -- ---- a wait that ran out
 
-sends-if : (o : Option Frame) (s : State) → sendsIf o s ≡ record { state = s; frames = listed o }
-sends-if none s = refl
-sends-if (some f) s = refl
-
-module _ (d : Device) where
-  -- with another request
-  abbrev waiting : Request → Device
-  waiting q = record { cells = d .cells; tx = d .tx; rx = d .rx; status = d .status; ints = d .ints; request = q }
-
-  module _ (arranged : Arranged d) where
-    still-waiting : (q : Request) → Arranged (waiting q)
-    still-waiting q = record { cells = arranged .cells; tx = arranged .tx; rx = arranged .rx }
-
-    pub expires-again : (w : ℕ) (before : List ℕ) → d .request .active ≡ true → d .request .sent < d .request .retries → (n : ℕ) (after : List ℕ)
-        → Sends (listed (flightIn (phaseOf (d .request .resetting)) (asked (d .request)) (queued (d .tx)))) before n after
-        → Does (expires w (asked (d .request)) (view d)) before
-        (record {
-          device = waiting (moved (d .request) (d .request .active) (d .request .resetting) (d .request .sent + 1) w);
-          reply = Done;
-          count = n;
-        }) after
-    unfolding expires
-    expires-again w before active h n after sent =
-        rw (lt-ltb (d .request .sent) (d .request .retries) h, sends-if (flight (view d) (asked (d .request))))
-        (record { state = rw (active, add-one (d .request .sent)) refl; arranged = still-waiting _; reply = refl; sends = sent })
+module _ (d : Device) (w : ℕ) (before : List ℕ) where
+  pub expires-again : Arranged d → d .request .active ≡ true → d .request .sent < d .request .retries → (q : Request)
+      → (q .active ≡ d .request .active) × (asked q ≡ goesOn (phaseOf (d .request .resetting)) (d .request .sent + 1) w (asked (d .request)))
+      → (u : Device) → Becomes (withRequest (requestOf q) (view d)) u → (n : ℕ) (after : List ℕ)
+      → Sends (listed (flightIn (phaseOf (d .request .resetting)) (asked (d .request)) (queued (d .tx)))) before n after
+      → Does (expires w (asked (d .request)) (view d)) before (done u n) after
+  unfolding expires
+  expires-again arranged active h q goes u x n after sent =
+      rw (lt-ltb (d .request .sent) (d .request .retries) h, ← add-one (d .request .sent))
+      (if-sending _ u (goes-on (view d) d (itself d arranged) (d .request) q _ active goes u x) before n after
+      (flight (view d) (asked (d .request))) sent)
 
   -- what was in flight failed
-  pub expires-last : (w : ℕ) (before : List ℕ) (r : Outcome) (after : List ℕ) → d .request .retries ≤ d .request .sent
-      → (resetting : Bool) → d .request .resetting ≡ resetting → Does (fails (phaseOf resetting) w (asked (d .request)) (view d)) before r after
+  pub expires-last : (r : Outcome) (after : List ℕ) → d .request .retries ≤ d .request .sent → (resetting : Bool)
+      → d .request .resetting ≡ resetting → Does (fails (phaseOf resetting) w (asked (d .request)) (view d)) before r after
       → Does (expires w (asked (d .request)) (view d)) before r after
   unfolding expires
-  expires-last w before r after last resetting e h =
+  expires-last r after last resetting e h =
       rw (
         le-ltb (d .request .sent) (d .request .retries) last,
         ap (λ x. fails (phaseOf x) w (asked (d .request)) (view d)) e,
@@ -175,25 +136,21 @@ module _ (d : Device) (asks : Asks d) (before : List ℕ) (us : ℕ) where
       pub pass-idle : d .request .active ≡ false → Serves (pass (length before) us) d before (record { device = d; reply = Done; count = 0 }) before
       unfolding passes
       pass-idle e =
-          passed none (rw e refl) _ before
-          (record { state = refl; arranged = asks .arranged; reply = refl; sends = sends-none before })
+          passed none (rw e refl) _ before (silently _ d (itself d (asks .arranged)) before)
 
       module _ (active : d .request .active ≡ true) where
         is : requestOf (d .request) ≡ some (asked (d .request))
         is = rw active refl
 
-        pub pass-waits : d .request .waited + us < 1000
-            → Serves (pass (length before) us) d before
-            (record {
-              device = waiting d (moved (d .request) (d .request .active) (d .request .resetting) (d .request .sent) (d .request .waited + us));
-              reply = Done;
-              count = 0;
-            }) before
+        pub pass-waits : d .request .waited + us < 1000 → (q : Request)
+            → (q .active ≡ d .request .active)
+            × (asked q ≡ goesOn (phaseOf (d .request .resetting)) (d .request .sent) (d .request .waited + us) (asked (d .request)))
+            → (u : Device) → Becomes (withRequest (requestOf q) (view d)) u → Serves (pass (length before) us) d before (done u 0) before
         unfolding passes elapses
-        pass-waits h =
+        pass-waits h q goes u x =
             passed _ is _ before
             (rw (lt-ltb (d .request .waited + us) 1000 h)
-            (record { state = rw active refl; arranged = still-waiting d (asks .arranged) _; reply = refl; sends = sends-none before }))
+            (silently _ u (goes-on (view d) d (itself d (asks .arranged)) (d .request) q _ active goes u x) before))
 
         pub pass-expires : 1000 ≤ d .request .waited + us → (r : Outcome) (after : List ℕ)
             → Does (expires (d .request .waited + us - 1000) (asked (d .request)) (view d)) before r after

@@ -1,15 +1,14 @@
 -- What a write does: each way out of the functions that carry it out.
 -- Assumes nothing.
-use mathlib.Core.Path.{_≡_, refl, ap, _∙_}
+use mathlib.Core.Path.{_≡_, refl, sym, ap, ap₂, _∙_}
 use mathlib.Core.Bool.{Bool, true, false, _&&_}
 use mathlib.Core.List.{List, [], _∷_, _++_}
-use mathlib.Core.Option.{Option, none, some}
 use Prim.Native.Nat.{ℕ, zero, suc, _-_, _<_, _≤_}
-use borrow.Author.Tests.{lt-ltb, ne-eqb}
-use lib.Bits.{bitAnd, bitOr, or-zero-r}
+use borrow.Author.Tests.{lt-ltb, eq-eqb, ne-eqb}
+use lib.Bits.{bitAnd}
 use lib.Dec.{eqb}
 use lib.ListN.{length, getD, set, length-set}
-use Rattle.line.specs.Frame.{Frame, joined}
+use Rattle.line.specs.Frame.{joined}
 use Rattle.line.specs.Write.{frameRoom}
 use Rattle.machine.specs.Registers.{
   cell,
@@ -30,11 +29,11 @@ use Rattle.machine.specs.Registers.{
   AUTO-SOFTRESET,
   AUTO-HARDRESET,
 }
-use Rattle.machine.specs.State.{State, withTx, withInts, raises}
-use Rattle.machine.specs.Status.{txRoom, flag, I-ALERT, I-HARDSENT}
+use Rattle.machine.specs.State as machine
+use Rattle.machine.specs.State.{State, cleared, withTx, withRx, withStatus, withRequest, hides, raisesA, raises}
+use Rattle.machine.specs.Status.{txRoom, I-ALERT, I-HARDSENT}
 use Rattle.machine.specs.Queue.{START, spelt}
-use Rattle.machine.specs.Requests.{Effect, silent, sendsIf, hardReset, retriesOf, latched, start, sendHardReset}
-use Rattle.machine.specs.Packets.{when}
+use Rattle.machine.specs.Requests.{Effect, silent, hardReset, retriesOf, latched, failBits, start, over, sendHardReset}
 use Rattle.machine.specs.Events.{write}
 use Rattle.machine.specs.Step.{
   restored,
@@ -60,24 +59,12 @@ use Rattle.fusb302.specs.declared.device.Reply.the-variants.{Done, No}
 use Rattle.fusb302.specs.declared.device.Outcome.{Outcome}
 use Rattle.fusb302.specs.Queued.{queued, Kept}
 use Rattle.fusb302.specs.Held.{held, Sound}
-use Rattle.fusb302.specs.View.{view, Arranged, Asks, PoweredUp}
-use Rattle.fusb302.specs.Serves.{listed, replied, Sends, Does, DoesQuietly, Serves, Refuses}
+use Rattle.fusb302.specs.View.{requestOf, statusOf, view, Arranged, Asks, PoweredUp}
+use Rattle.fusb302.specs.Serves.{listed, replied, Becomes, Sends, Does, DoesQuietly, Serves, Refuses}
 use Rattle.fusb302.proofs.Serving.{serves-no, serves-yes}
+use Rattle.fusb302.proofs.Becoming.{done, itself, and-then, hushed, silently, sending, if-sending}
 use Rattle.fusb302.proofs.Showing.{queued-length}
 use Rattle.fusb302.proofs.Refusing.{port-start-is}
-
--- ---- done, with nothing sent
-
-abbrev done : Device → ℕ → Outcome
-done t n = record { device = t; reply = Done; count = n }
-
-module _ (s : State) (t : Device) (arranged : Arranged t) (is : view t ≡ s) where
-  hushed : DoesQuietly (silent s) (done t 0)
-  hushed = record { state = is; arranged = arranged; reply = refl; count = refl; quiet = refl }
-
-  silently : (before : List ℕ) → Does (silent s) before (done t 0) before
-  unfolding joined
-  silently before = record { state = is; arranged = arranged; reply = refl; sends = record { count = refl; lent = refl } }
 
 pub quiet-does : (x : Effect) (r : Outcome) → DoesQuietly x r → (before : List ℕ) → Does x before r before
 unfolding joined
@@ -91,180 +78,137 @@ quiet-does x r h before =
 
 -- ---- a start
 
-if-sent : (o : Option Frame) (s : State) (t : Device) (n : ℕ) (before after : List ℕ) → Arranged t → view t ≡ s
-    → Sends (listed o) before n after → Does (sendsIf o s) before (done t n) after
-if-sent none s t n before after a e h = record { state = e; arranged = a; reply = refl; sends = h }
-if-sent (some f) s t n before after a e h = record { state = e; arranged = a; reply = refl; sends = h }
-
--- SOFTFAIL and RETRYFAIL are cleared
-abbrev hidden : Status → Status
-hidden x = record { status0a = bitAnd (x .status0a) 0xCF; «crc_chk» = x .«crc_chk»; kind = x .kind }
-
-abbrev begun : Device → ℕ → Bool → Bool → Device
-begun d retries soft hard =
+-- the request that a start opens, with its latched retries and resets
+abbrev latching : Device → ℕ → Bool → Bool → Request
+latching d retries soft hard =
     record {
-      cells = d .cells;
-      tx = d .tx;
-      rx = d .rx;
-      status = hidden (d .status);
-      ints = d .ints;
-      request =
-          record {
-            active = true;
-            switches1 = getD (d .cells) 1 0;
-            retries = retries;
-            soft = soft;
-            hard = hard;
-            resetting = false;
-            sent = 0;
-            waited = 0;
-          };
+      active = true;
+      switches1 = getD (d .cells) 1 0;
+      retries = retries;
+      soft = soft;
+      hard = hard;
+      resetting = false;
+      sent = 0;
+      waited = 0;
     }
 
--- a request is over
-abbrev idle : Request → Request
-idle q =
-    record {
-      active = false;
-      switches1 = q .switches1;
-      retries = q .retries;
-      soft = q .soft;
-      hard = q .hard;
-      resetting = q .resetting;
-      sent = q .sent;
-      waited = q .waited;
-    }
+pub begins : (d : Device) (retries : ℕ) (soft hard : Bool) → retries ≡ retriesOf (getD (d .cells) 7 0)
+    → soft ≡ has AUTO-SOFTRESET (getD (d .cells) 7 0) → hard ≡ has AUTO-HARDRESET (getD (d .cells) 7 0)
+    → (a b : Device) → Becomes (hides failBits (view d)) a → Becomes (withRequest (requestOf (latching d retries soft hard)) (view a)) b
+    → (n : ℕ) (before after : List ℕ) → Sends (listed (spelt (queued (d .tx)))) before n after
+    → Does (start (view d)) before (done b n) after
+unfolding start latched cell
+begins d retries soft hard p q r a b x y n before after h =
+    rw (← p, ← q, ← r)
+    (if-sending _ b (and-then _ a x (withRequest (requestOf (latching d retries soft hard))) b y) before n after (spelt (queued (d .tx))) h)
 
-module _ (d : Device) (arranged : Arranged d) where
-  pub begins : (retries : ℕ) (soft hard : Bool) → retries ≡ retriesOf (getD (d .cells) 7 0)
-      → soft ≡ has AUTO-SOFTRESET (getD (d .cells) 7 0) → hard ≡ has AUTO-HARDRESET (getD (d .cells) 7 0)
-      → (n : ℕ) (before after : List ℕ) → Sends (listed (spelt (queued (d .tx)))) before n after
-      → Does (start (view d)) before (done (begun d retries soft hard) n) after
-  unfolding start latched cell
-  begins retries soft hard p q r n before after h =
-      if-sent (spelt (queued (d .tx))) _ _ n before after
-      (record { cells = arranged .cells; tx = arranged .tx; rx = arranged .rx }) (rw (p, q, r) refl) h
+-- ---- the port
 
-  -- ---- the port
-
-  module _ (v : ℕ) (before : List ℕ) where
+module _ (d : Device) (arranged : Arranged d) (v : ℕ) where
+  module _ (before : List ℕ) where
     pub port-begins : (eqb (d .tx .left) 0 && eqb v START) ≡ true → (r : Outcome) (after : List ℕ)
         → Does (start (view d)) before r after → Does (portWritten v (view d)) before r after
     unfolding portWritten
     port-begins h r after x = rw (port-start-is d arranged v ∙ h) x
 
-    pub port-queues : (eqb (d .tx .left) 0 && eqb v START) ≡ false → (q : Queue) → Kept q → queued q ≡ queued (d .tx) ++ (v ∷ [])
-        → (f : ℕ) → f ≡ flag I-ALERT (eqb (q .len) txRoom)
-        → Does (portWritten v (view d)) before
-        (done
-        (record {
-          cells = d .cells;
-          tx = q;
-          rx = d .rx;
-          status = d .status;
-          ints = record { a = d .ints .a; b = d .ints .b; main = bitOr (d .ints .main) f };
-          request = d .request;
-        }) 0) before
-    unfolding portWritten queues
-    port-queues h q kept e f p =
-        rw (port-start-is d arranged v ∙ h, ← e, queued-length q kept)
-        (silently _ _ (record { cells = arranged .cells; tx = kept; rx = arranged .rx }) (go (eqb (q .len) txRoom) p) before)
-      where
-        go : (b : Bool) → f ≡ flag I-ALERT b
-            → withInts (record { a = d .ints .a; b = d .ints .b; main = bitOr (d .ints .main) f }) (withTx (queued q) (view d))
-            ≡ when b (raises I-ALERT) (withTx (queued q) (view d))
-        go true p = rw p refl
-        go false p = rw (p, or-zero-r) refl
+    pub port-queues : (eqb (d .tx .left) 0 && eqb v START) ≡ false → (t : Device) → Becomes (queues v (view d)) t
+        → Does (portWritten v (view d)) before (done t 0) before
+    unfolding portWritten
+    port-queues h t x = rw (port-start-is d arranged v ∙ h) (silently _ t x before)
 
-  -- ---- Control0
+  -- an octet more in the queue
+  module _ (q : Queue) (more : Kept q × (queued q ≡ queued (d .tx) ++ (v ∷ []))) where
+    abbrev longer : Device
+    longer = record { cells = d .cells; tx = q; rx = d .rx; status = d .status; ints = d .ints; request = d .request }
 
-  module _ (v : ℕ) (before : List ℕ) where
-    pub control0-begins : has TX-START v ≡ true → has TX-FLUSH v ≡ false → (r : Outcome) (after : List ℕ)
-        → Does (start (view d)) before r after → Does (control0Written v (view d)) before r after
+    is-longer : Becomes (withTx (queued (d .tx) ++ (v ∷ [])) (view d)) longer
+    is-longer = record { state = rw (more .1) refl; arranged = record { cells = arranged .cells; tx = more .0; rx = arranged .rx } }
+
+    counted : length (queued (d .tx) ++ (v ∷ [])) ≡ q .len
+    counted = sym (ap length (more .1)) ∙ queued-length q (more .0)
+
+    pub queue-on : (q .len ≡ txRoom → ⊥) → Becomes (queues v (view d)) longer
+    unfolding queues
+    queue-on h = rw (counted, ne-eqb (q .len) txRoom h) is-longer
+
+    pub queue-full : q .len ≡ txRoom → (u : Device) → Becomes (raises I-ALERT (view longer)) u → Becomes (queues v (view d)) u
+    unfolding queues
+    queue-full h u x = rw (counted, eq-eqb (q .len) txRoom h) (and-then _ longer is-longer (raises I-ALERT) u x)
+
+-- ---- Control0
+
+module _ (d : Device) (v : ℕ) (before : List ℕ) where
+  pub control0-begins : has TX-START v ≡ true → has TX-FLUSH v ≡ false → (r : Outcome) (after : List ℕ)
+      → Does (start (view d)) before r after → Does (control0Written v (view d)) before r after
+  unfolding control0Written
+  control0-begins h k r after x = rw (k, h) x
+
+  module _ (h : has TX-START v ≡ false) where
+    pub control0-flushes : has TX-FLUSH v ≡ true → (t : Device) → Becomes (over (view d)) t
+        → Does (control0Written v (view d)) before (done t 0) before
     unfolding control0Written
-    control0-begins h k r after x = rw (k, h) x
+    control0-flushes k t x = rw (k, h) (silently _ t x before)
 
-    module _ (h : has TX-START v ≡ false) where
-      pub control0-flushes : has TX-FLUSH v ≡ true → (q : Queue) → Kept q → queued q ≡ []
-          → Does (control0Written v (view d)) before
-          (done (record { cells = d .cells; tx = q; rx = d .rx; status = d .status; ints = d .ints; request = idle (d .request) }) 0) before
-      unfolding control0Written
-      control0-flushes k q kept e =
-          rw (k, h) (silently _ _ (record { cells = arranged .cells; tx = kept; rx = arranged .rx }) (rw e refl) before)
+    pub control0-rests : has TX-FLUSH v ≡ false → Arranged d → Does (control0Written v (view d)) before (done d 0) before
+    unfolding control0Written
+    control0-rests k arranged = rw (k, h) (silently _ d (itself d arranged) before)
 
-      pub control0-rests : has TX-FLUSH v ≡ false → Does (control0Written v (view d)) before (done d 0) before
-      unfolding control0Written
-      control0-rests k = rw (k, h) (silently _ d arranged refl before)
+-- ---- Control1
 
-  -- ---- Control1
+module _ (d : Device) (arranged : Arranged d) (v : ℕ) where
+  pub control1-flushes : has RX-FLUSH v ≡ true → (f : Fifo) → Sound f → held f ≡ []
+      → DoesQuietly (control1Written v (view d))
+      (done (record { cells = d .cells; tx = d .tx; rx = f; status = d .status; ints = d .ints; request = d .request }) 0)
+  unfolding control1Written
+  control1-flushes h f sound e =
+      rw h
+      (hushed _ _ (record { state = rw e refl; arranged = record { cells = arranged .cells; tx = arranged .tx; rx = sound } }))
 
-  module _ (v : ℕ) where
-    pub control1-flushes : has RX-FLUSH v ≡ true → (f : Fifo) → Sound f → held f ≡ []
-        → DoesQuietly (control1Written v (view d))
-        (done (record { cells = d .cells; tx = d .tx; rx = f; status = d .status; ints = d .ints; request = d .request }) 0)
-    unfolding control1Written
-    control1-flushes h f sound e =
-        rw h (hushed _ _ (record { cells = arranged .cells; tx = arranged .tx; rx = sound }) (rw e refl))
+  pub control1-rests : has RX-FLUSH v ≡ false → DoesQuietly (control1Written v (view d)) (done d 0)
+  unfolding control1Written
+  control1-rests h = rw h (hushed _ d (itself d arranged))
 
-    pub control1-rests : has RX-FLUSH v ≡ false → DoesQuietly (control1Written v (view d)) (done d 0)
-    unfolding control1Written
-    control1-rests h = rw h (hushed _ d arranged refl)
+-- ---- Control3
 
-  -- ---- Control3
+module _ (d : Device) (v : ℕ) (before : List ℕ) where
+  pub control3-sends : has SEND-HARD-RESET v ≡ true → (a b c : Device) → Becomes (over (view d)) a → Becomes (hides failBits (view a)) b
+      → Becomes (raisesA I-HARDSENT (view b)) c → (n : ℕ) (after : List ℕ) → Sends (hardReset ∷ []) before n after
+      → Does (control3Written v (view d)) before (done c n) after
+  unfolding control3Written sendHardReset
+  control3-sends h a b c x y z n after sent =
+      rw h
+      (sending _ c (and-then _ b (and-then _ a x (hides failBits) b y) (raisesA I-HARDSENT) c z) before n after hardReset sent)
 
-  module _ (v : ℕ) (before : List ℕ) where
-    pub control3-sends : has SEND-HARD-RESET v ≡ true → (q : Queue) → Kept q → queued q ≡ [] → (n : ℕ) (after : List ℕ)
-        → Sends (hardReset ∷ []) before n after
-        → Does (control3Written v (view d)) before
-        (done
-        (record {
-          cells = d .cells;
-          tx = q;
-          rx = d .rx;
-          status = hidden (d .status);
-          ints = record { a = bitOr (d .ints .a) I-HARDSENT; b = d .ints .b; main = d .ints .main };
-          request = idle (d .request);
-        }) n) after
-    unfolding control3Written sendHardReset
-    control3-sends h q kept e n after x =
-        rw h
-        (record {
-          state = rw e refl;
-          arranged = record { cells = arranged .cells; tx = kept; rx = arranged .rx };
-          reply = refl;
-          sends = x;
-        })
+  pub control3-rests : has SEND-HARD-RESET v ≡ false → Arranged d → Does (control3Written v (view d)) before (done d 0) before
+  unfolding control3Written
+  control3-rests h arranged = rw h (silently _ d (itself d arranged) before)
 
-    pub control3-rests : has SEND-HARD-RESET v ≡ false → Does (control3Written v (view d)) before (done d 0) before
-    unfolding control3Written
-    control3-rests h = rw h (silently _ d arranged refl before)
+-- ---- Reset
 
-  -- ---- Reset
+pub pd-resets : (d a : Device) → Becomes (over (view d)) a → (f : Fifo) → Sound f × (held f ≡ []) → (x : Status) → statusOf x ≡ cleared
+    → Becomes (pdReset (view d)) (record { cells = a .cells; tx = a .tx; rx = f; status = x; ints = a .ints; request = a .request })
+unfolding pdReset
+pd-resets d a h f empty x e =
+    record {
+      state =
+          ap (λ (l : List ℕ). withRx l (withStatus (statusOf x) (view a))) (empty .1)
+          ∙ ap₂ (λ (s : State) (y : machine.Status). withRx [] (withStatus y s)) (h .state) e;
+      arranged = record { cells = h .arranged .cells; tx = h .arranged .tx; rx = empty .0 };
+    }
 
-  module _ (v : ℕ) where
-    pub reset-restores : has SW-RES v ≡ true → (t : Device) → PoweredUp t → DoesQuietly (resetWritten v (view d)) (done t 0)
-    unfolding resetWritten restored
-    reset-restores h t p = rw h (hushed _ t (p .asks .arranged) (p .new))
+module _ (d : Device) (v : ℕ) where
+  pub reset-restores : has SW-RES v ≡ true → (t : Device) → PoweredUp t → DoesQuietly (resetWritten v (view d)) (done t 0)
+  unfolding resetWritten restored
+  reset-restores h t p = rw h (hushed _ t (record { state = p .new; arranged = p .asks .arranged }))
 
-    module _ (h : has SW-RES v ≡ false) where
-      pub reset-clears : has PD-RESET v ≡ true → (q : Queue) → Kept q → queued q ≡ [] → (f : Fifo) → Sound f → held f ≡ []
-          → DoesQuietly (resetWritten v (view d))
-          (done
-          (record {
-            cells = d .cells;
-            tx = q;
-            rx = f;
-            status = record { status0a = 0; «crc_chk» = false; kind = 5 };
-            ints = d .ints;
-            request = idle (d .request);
-          }) 0)
-      unfolding resetWritten pdReset
-      reset-clears k q kept e f sound g =
-          rw (h, k) (hushed _ _ (record { cells = arranged .cells; tx = kept; rx = sound }) (rw (e, g) refl))
+  module _ (h : has SW-RES v ≡ false) where
+    pub reset-clears : has PD-RESET v ≡ true → (t : Device) → Becomes (pdReset (view d)) t → DoesQuietly (resetWritten v (view d)) (done t 0)
+    unfolding resetWritten
+    reset-clears k t x = rw (h, k) (hushed _ t x)
 
-      pub reset-rests : has PD-RESET v ≡ false → DoesQuietly (resetWritten v (view d)) (done d 0)
-      unfolding resetWritten
-      reset-rests k = rw (h, k) (hushed _ d arranged refl)
+    pub reset-rests : has PD-RESET v ≡ false → Arranged d → DoesQuietly (resetWritten v (view d)) (done d 0)
+    unfolding resetWritten
+    reset-rests k arranged = rw (h, k) (hushed _ d (itself d arranged))
 
 -- ---- a register is stored, and then commands
 
@@ -306,7 +250,7 @@ module _ (a v : ℕ) (s : State) where
   is-plain p q r t = rw (ne-eqb _ _ p, ne-eqb _ _ q, ne-eqb _ _ r, ne-eqb _ _ t) refl
 
 pub rests : (t : Device) → Arranged t → (before : List ℕ) → Does (silent (view t)) before (done t 0) before
-rests t arranged before = silently (view t) t arranged refl before
+rests t arranged before = silently (view t) t (itself t arranged) before
 
 -- ---- the whole
 

@@ -59,12 +59,13 @@ ghost use Rattle.line.specs.Write.{frameRoom};
 ghost use Rattle.machine.specs.Registers.{fifos, has, TX-FLUSH, TX-START};
 ghost use Rattle.machine.specs.Queue.{START, spelt, isMessage};
 ghost use Rattle.machine.specs.Headers.{control, messageId};
-ghost use Rattle.machine.specs.Requests.{driverOn, flightIn, acknowledged, start, messageFails, softFails, expires};
-ghost use Rattle.machine.specs.Packets.{enables, hasRoom, awaited, repliesTo, rxToken, when, checks, softResetHeard, stores, accepts, hears};
+ghost use Rattle.machine.specs.State.{cleared, withRequest, shows, hides, raisesA, raisesB, raises};
+ghost use Rattle.machine.specs.Requests.{driverOn, flightIn, failBits, over, goesOn, acknowledged, start, messageFails, softFails, expires};
+ghost use Rattle.machine.specs.Packets.{enables, hasRoom, awaited, repliesTo, rxToken, when, checks, softResetHeard, keeps, stores, accepts, hears};
 ghost use Rattle.machine.specs.Events.{write, read, pass, hardReset, packet};
-ghost use Rattle.machine.specs.Step.{control0Written, control1Written, control3Written, resetWritten, portWritten, writes};
+ghost use Rattle.machine.specs.Step.{pdReset, queues, control0Written, control1Written, control3Written, resetWritten, portWritten, writes};
 ghost use Rattle.fusb302.specs.Queued.{queued, Kept};
-ghost use Rattle.fusb302.specs.View.{phaseOf, asked, view, intsOf, Arranged, Asks, PoweredUp};
+ghost use Rattle.fusb302.specs.View.{phaseOf, asked, requestOf, statusOf, view, intsOf, Arranged, Asks, PoweredUp};
 ghost use Rattle.fusb302.specs.Serves.{listed, Becomes, Sends, Does, DoesQuietly, Serves, PortRead, Refuses, startNo};
 
 // The longest frame (01, 'Numbers of no', 12).
@@ -270,6 +271,18 @@ fn answers(sent: u8, id: u8, kind: u8, packet: &[u8]) -> bool
     false
 }
 
+impl Status {
+    fn cleared() -> Status
+        ensures { λ r. ⌜ statusOf r ≡ cleared ⌝ }
+    {
+        Status {
+            status0a: 0,
+            crc_chk: false,
+            kind: NO_KIND,
+        }
+    }
+}
+
 impl Ints {
     fn cleared(mut self, address: u8) -> Ints
         ensures { λ r. ⌜ intsOf r ≡ clearedAt address (intsOf self) ⌝ }
@@ -280,6 +293,18 @@ impl Ints {
             0x42 => self.main = 0,
             _ => (),
         }
+        self
+    }
+}
+
+impl Request {
+    // The same request in another phase, with another count of retries and wait.
+    fn goes_on(mut self, resetting: bool, sent: u8, waited: u16) -> Request
+        ensures { λ r. ⌜ (r .active ≡ self .active) × (asked r ≡ goesOn (phaseOf resetting) sent waited (asked self)) ⌝ }
+    {
+        self.resetting = resetting;
+        self.sent = sent;
+        self.waited = waited;
         self
     }
 }
@@ -314,11 +339,7 @@ impl Device {
             cells: Device::RESETS,
             tx: Queue::empty(),
             rx: Fifo::empty(),
-            status: Status {
-                status0a: 0,
-                crc_chk: false,
-                kind: NO_KIND,
-            },
+            status: Status::cleared(),
             ints: Ints {
                 a: 0,
                 b: 0,
@@ -367,6 +388,76 @@ impl Device {
             reply: Reply::Done,
             count,
         }
+    }
+
+    // ---- a part replaced, as the machine's State replaces it
+
+    // A request, or none, is over and the queue empty.
+    fn over(mut self) -> Device
+        requires { ⌜ Arranged self ⌝ }
+        ensures { λ r. ⌜ Becomes (over (view self)) r ⌝ }
+    {
+        self.tx = Queue::empty();
+        self.request.active = false;
+        self
+    }
+
+    fn requests(mut self, request: Request) -> Device
+        requires { ⌜ Arranged self ⌝ }
+        ensures { λ r. ⌜ Becomes (withRequest (requestOf request) (view self)) r ⌝ }
+    {
+        self.request = request;
+        self
+    }
+
+    // Bits set in 3C.
+    fn shows(mut self, bits: u8) -> Device
+        requires { ⌜ Arranged self ⌝ }
+        ensures { λ r. ⌜ Becomes (shows bits (view self)) r ⌝ }
+    {
+        let shown = self.status.status0a | bits;
+        self.status.status0a = shown;
+        self
+    }
+
+    // SOFTFAIL and RETRYFAIL cleared.
+    fn hides_fails(mut self) -> Device
+        requires { ⌜ Arranged self ⌝ }
+        ensures { λ r. ⌜ Becomes (hides failBits (view self)) r ⌝ }
+    {
+        let hidden = self.status.status0a & !(SOFTFAIL | RETRYFAIL);
+        self.status.status0a = hidden;
+        self
+    }
+
+    // Bits set in 3E, whatever masks say.
+    fn raises_a(mut self, bits: u8) -> Device
+        requires { ⌜ Arranged self ⌝ }
+        ensures { λ r. ⌜ Becomes (raisesA bits (view self)) r ⌝ }
+    {
+        let raised = self.ints.a | bits;
+        self.ints.a = raised;
+        self
+    }
+
+    // Bits set in 3F.
+    fn raises_b(mut self, bits: u8) -> Device
+        requires { ⌜ Arranged self ⌝ }
+        ensures { λ r. ⌜ Becomes (raisesB bits (view self)) r ⌝ }
+    {
+        let raised = self.ints.b | bits;
+        self.ints.b = raised;
+        self
+    }
+
+    // Bits set in 42.
+    fn raises(mut self, bits: u8) -> Device
+        requires { ⌜ Arranged self ⌝ }
+        ensures { λ r. ⌜ Becomes (raises bits (view self)) r ⌝ }
+    {
+        let raised = self.ints.main | bits;
+        self.ints.main = raised;
+        self
     }
 
     // ---- status
@@ -500,13 +591,8 @@ impl Device {
         if symbols.len() < FRAME_ROOM {
             return self.refuse(12);
         }
-        self.tx = Queue::empty();
-        self.request.active = false;
-        let shown = self.status.status0a | HARDRST;
-        self.status.status0a = shown;
-        let raised = self.ints.a | I_HARDRST;
-        self.ints.a = raised;
-        self.done(0)
+        let heard = self.over().shows(HARDRST).raises_a(I_HARDRST);
+        heard.done(0)
     }
 
     // ---- time
@@ -524,60 +610,46 @@ impl Device {
     }
 
     // The Soft_Reset failed: a Hard Reset follows if that was latched.
-    fn soft_fails(mut self, symbols: &mut [u8]) -> Outcome
+    fn soft_fails(self, symbols: &mut [u8]) -> Outcome
         requires { ⌜ Arranged self × (frameRoom ≤ length (now symbols)) ⌝ }
         ensures { λ r. ⌜ Does (softFails (asked (self .request)) (view self)) (now (symbols .entry)) r (now (symbols .exit)) ⌝ }
     {
-        self.tx = Queue::empty();
-        let shown = self.status.status0a | SOFTFAIL;
-        self.status.status0a = shown;
-        let raised = self.ints.a | I_SOFTFAIL;
-        self.ints.a = raised;
-        self.request.active = false;
+        let failed = self.over().shows(SOFTFAIL).raises_a(I_SOFTFAIL);
         if self.request.hard {
-            let sent = self.ints.a | I_HARDSENT;
-            self.ints.a = sent;
             let count = put(HARD_RESET, b"", symbols);
-            return self.done(count);
+            return failed.raises_a(I_HARDSENT).done(count);
         }
-        self.done(0)
+        failed.done(0)
     }
 
     // The message failed: a Soft_Reset follows if that was latched.
-    fn message_fails(mut self, waited: u16, symbols: &mut [u8]) -> Outcome
+    fn message_fails(self, waited: u16, symbols: &mut [u8]) -> Outcome
         requires { ⌜ Arranged self × (self .request .active ≡ true) × (frameRoom ≤ length (now symbols)) ⌝ }
         ensures { λ r. ⌜ Does (messageFails waited (asked (self .request)) (view self)) (now (symbols .entry)) r (now (symbols .exit)) ⌝ }
     {
-        self.tx = Queue::empty();
-        let shown = self.status.status0a | RETRYFAIL;
-        self.status.status0a = shown;
-        let raised = self.ints.a | I_RETRYFAIL;
-        self.ints.a = raised;
-        if self.request.soft {
-            self.request.resetting = true;
-            self.request.sent = 0;
-            self.request.waited = waited;
-            let count = put_control(SOFT_RESET, SOP, self.request.switches1, 0, symbols);
-            return self.done(count);
+        let failed = self.over().shows(RETRYFAIL).raises_a(I_RETRYFAIL);
+        let request = self.request;
+        if request.soft {
+            let count = put_control(SOFT_RESET, SOP, request.switches1, 0, symbols);
+            return failed
+                .requests(request.goes_on(true, 0, waited))
+                .done(count);
         }
-        self.request.active = false;
-        self.done(0)
+        failed.done(0)
     }
 
     // A wait ran out, and so many microseconds of the next have passed.
-    fn expire(mut self, waited: u16, symbols: &mut [u8]) -> Outcome
+    fn expire(self, waited: u16, symbols: &mut [u8]) -> Outcome
         requires { ⌜ Asks self × (self .request .active ≡ true) × (frameRoom ≤ length (now symbols)) ⌝ }
         ensures { λ r. ⌜ Does (expires waited (asked (self .request)) (view self)) (now (symbols .entry)) r (now (symbols .exit)) ⌝ }
     {
-        let sent = self.request.sent;
-        if sent < self.request.retries {
+        let request = self.request;
+        if request.sent < request.retries {
             let count = self.put_flight(symbols);
-            let again = sent + 1;
-            self.request.sent = again;
-            self.request.waited = waited;
-            return self.done(count);
+            let again = request.goes_on(request.resetting, request.sent + 1, waited);
+            return self.requests(again).done(count);
         }
-        if self.request.resetting {
+        if request.resetting {
             return self.soft_fails(symbols);
         }
         self.message_fails(waited, symbols)
@@ -594,12 +666,12 @@ impl Device {
         if LONGEST_PASS < microseconds {
             return self.refuse(10);
         }
-        if self.request.active {
-            let waited = self.request.waited as u32 + microseconds;
+        let request = self.request;
+        if request.active {
+            let waited = request.waited as u32 + microseconds;
             if waited < WAIT {
-                let so_far = waited as u16;
-                self.request.waited = so_far;
-                return self.done(0);
+                let waits = request.goes_on(request.resetting, request.sent, waited as u16);
+                return self.requests(waits).done(0);
             }
             return self.expire((waited - WAIT) as u16, symbols);
         }
@@ -676,14 +748,12 @@ impl Device {
     // ---- what a write does
 
     // Opens a request for the message that the queue spells, and sends it.
-    fn begin(mut self, symbols: &mut [u8]) -> Outcome
+    fn begin(self, symbols: &mut [u8]) -> Outcome
         requires { ⌜ Arranged self × Octets (queued (self .tx)) × (frameRoom ≤ length (now symbols)) ⌝ }
         ensures { λ r. ⌜ Does (start (view self)) (now (symbols .entry)) r (now (symbols .exit)) ⌝ }
     {
         let cells = self.cells;
         let tx = self.tx;
-        let hidden = self.status.status0a & !(SOFTFAIL | RETRYFAIL);
-        self.status.status0a = hidden;
         let request = Request {
             active: true,
             switches1: cells[SWITCHES1],
@@ -694,12 +764,25 @@ impl Device {
             sent: 0,
             waited: 0,
         };
-        self.request = request;
         let count = put_message(tx, symbols);
-        self.done(count)
+        self.hides_fails().requests(request).done(count)
     }
 
-    fn port_written(mut self, octet: u8, symbols: &mut [u8]) -> Outcome
+    // An octet goes to the queue, which it may make full.
+    fn queue(mut self, octet: u8) -> Device
+        requires { ⌜ Arranged self × (self .tx .len < txRoom) ⌝ }
+        ensures { λ r. ⌜ Becomes (queues octet (view self)) r ⌝ }
+    {
+        let tx = self.tx;
+        let longer = tx.push(octet);
+        self.tx = longer;
+        if longer.len == Queue::CAPACITY {
+            return self.raises(I_ALERT);
+        }
+        self
+    }
+
+    fn port_written(self, octet: u8, symbols: &mut [u8]) -> Outcome
         requires { ⌜ Asks self × Refuses (view self) fifos octet 0 × (frameRoom ≤ length (now symbols)) ⌝ }
         ensures { λ r. ⌜ Does (portWritten octet (view self)) (now (symbols .entry)) r (now (symbols .exit)) ⌝ }
     {
@@ -707,14 +790,10 @@ impl Device {
         if is_start(tx.left, octet) {
             return self.begin(symbols);
         }
-        let longer = tx.push(octet);
-        let main = self.ints.main | flag(I_ALERT, longer.len == Queue::CAPACITY);
-        self.tx = longer;
-        self.ints.main = main;
-        self.done(0)
+        self.queue(octet).done(0)
     }
 
-    fn control0_written(mut self, value: u8, symbols: &mut [u8]) -> Outcome
+    fn control0_written(self, value: u8, symbols: &mut [u8]) -> Outcome
         requires { ⌜ Arranged self × Octets (queued (self .tx)) × (has TX-START value ≡ true → has TX-FLUSH value ≡ false) × (frameRoom ≤ length (now symbols)) ⌝ }
         ensures { λ r. ⌜ Does (control0Written value (view self)) (now (symbols .entry)) r (now (symbols .exit)) ⌝ }
     {
@@ -722,9 +801,7 @@ impl Device {
             return self.begin(symbols);
         }
         if has(TX_FLUSH, value) {
-            self.tx = Queue::empty();
-            self.request.active = false;
-            return self.done(0);
+            return self.over().done(0);
         }
         self.done(0)
     }
@@ -740,42 +817,37 @@ impl Device {
         self.done(0)
     }
 
-    fn control3_written(mut self, value: u8, symbols: &mut [u8]) -> Outcome
+    fn control3_written(self, value: u8, symbols: &mut [u8]) -> Outcome
         requires { ⌜ Arranged self × (frameRoom ≤ length (now symbols)) ⌝ }
         ensures { λ r. ⌜ Does (control3Written value (view self)) (now (symbols .entry)) r (now (symbols .exit)) ⌝ }
     {
         if has(SEND_HARD_RESET, value) {
-            self.tx = Queue::empty();
-            self.request.active = false;
-            let hidden = self.status.status0a & !(SOFTFAIL | RETRYFAIL);
-            self.status.status0a = hidden;
-            let raised = self.ints.a | I_HARDSENT;
-            self.ints.a = raised;
             let count = put(HARD_RESET, b"", symbols);
-            return self.done(count);
+            return self.over().hides_fails().raises_a(I_HARDSENT).done(count);
         }
         self.done(0)
     }
 
-    fn reset_written(mut self, value: u8) -> Outcome
+    // Both FIFOs empty, no request, and the status cleared.
+    fn pd_reset(self) -> Device
+        requires { ⌜ Arranged self ⌝ }
+        ensures { λ r. ⌜ Becomes (pdReset (view self)) r ⌝ }
+    {
+        let mut cleared = self.over();
+        cleared.rx = Fifo::empty();
+        cleared.status = Status::cleared();
+        cleared
+    }
+
+    fn reset_written(self, value: u8) -> Outcome
         requires { ⌜ Arranged self ⌝ }
         ensures { λ r. ⌜ DoesQuietly (resetWritten value (view self)) r ⌝ }
     {
         if has(SW_RES, value) {
-            let fresh = Device::power_up();
-            return fresh.done(0);
+            return Device::power_up().done(0);
         }
         if has(PD_RESET, value) {
-            self.tx = Queue::empty();
-            self.rx = Fifo::empty();
-            self.request.active = false;
-            let cleared = Status {
-                status0a: 0,
-                crc_chk: false,
-                kind: NO_KIND,
-            };
-            self.status = cleared;
-            return self.done(0);
+            return self.pd_reset().done(0);
         }
         self.done(0)
     }
@@ -850,36 +922,26 @@ impl Device {
         ensures { λ r. ⌜ Becomes (checks (view self)) r ⌝ }
     {
         self.status.crc_chk = true;
-        let main = self.ints.main | I_CRC_CHK;
-        self.ints.main = main;
-        self
+        self.raises(I_CRC_CHK)
     }
 
     // The awaited GoodCRC ends the request.
-    fn acknowledged(mut self, awaited: bool) -> Device
+    fn acknowledged(self, awaited: bool) -> Device
         requires { ⌜ Arranged self ⌝ }
         ensures { λ r. ⌜ Becomes (when awaited acknowledged (view self)) r ⌝ }
     {
         if awaited {
-            self.tx = Queue::empty();
-            self.request.active = false;
-            let raised = self.ints.a | I_TXSENT;
-            self.ints.a = raised;
-            return self;
+            return self.over().raises_a(I_TXSENT);
         }
         self
     }
 
-    fn soft_reset(mut self, heard: bool) -> Device
+    fn soft_reset(self, heard: bool) -> Device
         requires { ⌜ Arranged self ⌝ }
         ensures { λ r. ⌜ Becomes (when heard softResetHeard (view self)) r ⌝ }
     {
         if heard {
-            let shown = self.status.status0a | SOFTRST;
-            self.status.status0a = shown;
-            let raised = self.ints.a | I_SOFTRST;
-            self.ints.a = raised;
-            return self;
+            return self.shows(SOFTRST).raises_a(I_SOFTRST);
         }
         self
     }
@@ -903,31 +965,34 @@ impl Device {
         false
     }
 
-    // Token and octets go to Rx, and a GoodCRC leaves if one is due.
-    fn store(mut self, kind: u8, packet: &[u8], symbols: &mut [u8]) -> Outcome
+    // Token and octets go to Rx, which they may make full.
+    fn keep(mut self, kind: u8, packet: &[u8]) -> Device
+        requires { ⌜ Arranged self × (kind < sopKinds) × (hasRoom (now packet) (view self) ≡ true) ⌝ }
+        ensures { λ r. ⌜ Becomes (keeps kind (now (packet .entry)) (view self)) r ⌝ }
+    {
+        let rx = self.rx;
+        let longer = rx.store(rx_token(kind), packet);
+        self.rx = longer;
+        self.status.kind = kind;
+        if longer.len == Fifo::CAPACITY {
+            return self.raises(I_ALERT);
+        }
+        self
+    }
+
+    // A packet is kept, and a GoodCRC leaves if one is due.
+    fn store(self, kind: u8, packet: &[u8], symbols: &mut [u8]) -> Outcome
         requires { ⌜ Arranged self × (kind < sopKinds) × (6 ≤ length (now packet)) × (hasRoom (now packet) (view self) ≡ true) × (frameRoom ≤ length (now symbols)) ⌝ }
         ensures { λ r. ⌜ Does (stores kind (now (packet .entry)) (view self)) (now (symbols .entry)) r (now (symbols .exit)) ⌝ }
     {
         let replies = self.replies_to(packet);
-        let rx = self.rx;
-        let longer = rx.store(rx_token(kind), packet);
-        let main = self.ints.main | flag(I_ALERT, longer.len == Fifo::CAPACITY);
-        self.rx = longer;
-        self.ints.main = main;
-        self.status.kind = kind;
+        let kept = self.keep(kind, packet);
         if replies {
-            let raised = self.ints.b | I_GCRCSENT;
-            self.ints.b = raised;
-            let count = put_control(
-                GOOD_CRC,
-                kind,
-                self.cells[SWITCHES1],
-                message_id(packet),
-                symbols,
-            );
-            return self.done(count);
+            let switches1 = self.cells[SWITCHES1];
+            let count = put_control(GOOD_CRC, kind, switches1, message_id(packet), symbols);
+            return kept.raises_b(I_GCRCSENT).done(count);
         }
-        self.done(0)
+        kept.done(0)
     }
 
     // A packet whose CRC is right.
@@ -936,15 +1001,13 @@ impl Device {
         ensures { λ r. ⌜ Does (accepts kind (now (packet .entry)) (view self)) (now (symbols .entry)) r (now (symbols .exit)) ⌝ }
     {
         let awaited = self.awaits(kind, packet);
-        let mut noted = self.checked()
+        let noted = self.checked()
             .acknowledged(awaited)
             .soft_reset(is_control(SOFT_RESET, packet));
         if noted.rx.len + 1 + packet.len() <= Fifo::CAPACITY {
             return noted.store(kind, packet, symbols);
         }
-        let main = noted.ints.main | I_ALERT;
-        noted.ints.main = main;
-        noted.done(0)
+        noted.raises(I_ALERT).done(0)
     }
 
     fn hear(mut self, kind: u8, packet: &[u8], symbols: &mut [u8]) -> Outcome

@@ -4,8 +4,8 @@ use Rattle.fusb302.proofs.Writing.{begins}
 use Rattle.fusb302.proofs.device.Device.begin.Statement.{statement}
 use Rattle.fusb302.proofs.device.Device.begin.Tie as tie
 
-array-read-t8 : tie.Need-array-read-t8
-array-read-t8 c = search needs
+array-read-t9 : tie.Need-array-read-t9
+array-read-t9 c = search needs
 
 array-read-retries-of : tie.Need-array-read-retries-of
 array-read-retries-of c = search needs
@@ -28,6 +28,12 @@ has-requires-2 c κs = search needs
 put-message-requires : tie.Need-put-message-requires
 put-message-requires c κs = search needs
 
+hides-fails-requires : tie.Need-hides-fails-requires
+hides-fails-requires c κs = search needs
+
+requests-requires : tie.Need-requests-requires
+requests-requires c κs = search needs
+
 done-requires : tie.Need-done-requires
 done-requires c κs = search needs
 
@@ -35,13 +41,13 @@ same-length : tie.Need-same-length
 same-length c = search needs
 
 returns : tie.Need-returns
-returns c = rw (c .done .ensures) (begins _ (c .before .before .before .before .before .before .before .before .before .before .before .before .before .pre .0) _ _ _ (c .before .before .before .before .before .before .before .retries-of .ensures) (c .before .before .before .before .before .before .has .ensures) (c .before .before .before .before .before .has2 .ensures) _ _ _ (c .before .before .before .put-message .ensures))
+returns c = rw (c .done .ensures) (begins (c .before .before .before .before .before .before .before .before .before .before .before .before .before .args .self) _ _ _ (c .before .before .before .before .before .before .before .before .before .retries-of .ensures) (c .before .before .before .before .before .before .before .before .has .ensures) (c .before .before .before .before .before .before .before .has2 .ensures) (c .before .before .hides-fails .result) (c .before .requests .result) (c .before .before .hides-fails .ensures) (c .before .requests .ensures) _ _ _ (c .before .before .before .before .before .put-message .ensures))
 
 pub begin-spec : {M : Type 1} → statement M
 begin-spec =
     tie.close
     (tie.spec
-    array-read-t8
+    array-read-t9
     array-read-retries-of
     retries-of-requires
     array-read-has
@@ -49,6 +55,8 @@ begin-spec =
     array-read-has-2
     has-requires-2
     put-message-requires
+    hides-fails-requires
+    requests-requires
     done-requires
     same-length
     returns)

@@ -17,27 +17,25 @@ same-length c = search needs
 returns : tie.Need-returns
 returns c =
     let h = sym (c .before .before .before .before .before .has .ensures) ∙ c .before .before .before .before .if1 .taken in
-    control0-begins _ (c .before .before .before .before .before .before .before .pre .0) _ _ h (c .before .before .before .before .before .before .before .pre .2 h) _ _ (c .before .before .begin .ensures)
+    control0-begins (c .before .before .before .before .before .before .before .args .self) _ _ h (c .before .before .before .before .before .before .before .pre .2 h) _ _ (c .before .before .begin .ensures)
 
 has-requires-2 : tie.Need-has-requires-2
 has-requires-2 c κs = search needs
 
-empty-requires : tie.Need-empty-requires
-empty-requires c κs = search needs
+over-requires : tie.Need-over-requires
+over-requires c κs = search needs
 
 done-requires : tie.Need-done-requires
 done-requires c κs = search needs
 
 returns-2 : tie.Need-returns-2
-returns-2 c =
-    rw (c .done .ensures)
-    (control0-flushes _ (c .before .before .before .before .before .before .before .before .pre .0) _ _ (sym (c .before .before .before .before .before .before .has .ensures) ∙ c .before .before .before .before .before .if1 .left) (sym (c .before .before .before .before .has2 .ensures) ∙ c .before .before .before .if2 .taken) _ (c .before .before .empty .ensures .0) (c .before .before .empty .ensures .1))
+returns-2 c = rw (c .done .ensures) (control0-flushes (c .before .before .before .before .before .before .before .args .self) _ _ (sym (c .before .before .before .before .before .has .ensures) ∙ c .before .before .before .before .if1 .left) (sym (c .before .before .before .has2 .ensures) ∙ c .before .before .if2 .taken) _ (c .before .over .ensures))
 
 done-requires-2 : tie.Need-done-requires-2
 done-requires-2 c κs = search needs
 
 returns-3 : tie.Need-returns-3
-returns-3 c = rw (c .done2 .ensures) (control0-rests _ (c .before .before .before .before .before .before .pre .0) _ _ (sym (c .before .before .before .before .has .ensures) ∙ c .before .before .before .if1 .left) (sym (c .before .before .has2 .ensures) ∙ c .before .if2 .left))
+returns-3 c = rw (c .done2 .ensures) (control0-rests (c .before .before .before .before .before .before .args .self) _ _ (sym (c .before .before .before .before .has .ensures) ∙ c .before .before .before .if1 .left) (sym (c .before .before .has2 .ensures) ∙ c .before .if2 .left) (c .before .before .before .before .before .before .pre .0))
 
 pub control0-written-spec : {M : Type 1} → statement M
 control0-written-spec =
@@ -48,7 +46,7 @@ control0-written-spec =
     same-length
     returns
     has-requires-2
-    empty-requires
+    over-requires
     done-requires
     returns-2
     done-requires-2

@@ -1,8 +1,7 @@
 -- A Hard Reset leaves, or nothing is done.
 use borrow.Author.Needs.{needs}
-use mathlib.Core.Path.{refl, sym, _∙_}
-use native.Mathlib.Omega.{arith}
-use Rattle.line.specs.Frame.{Whole}
+use mathlib.Core.Path.{sym, _∙_}
+use Rattle.fusb302.proofs.Sending.{reset-whole}
 use Rattle.fusb302.proofs.Writing.{control3-sends, control3-rests}
 use Rattle.fusb302.proofs.device.Device.control3_written.Statement.{statement}
 use Rattle.fusb302.proofs.device.Device.control3_written.Tie as tie
@@ -10,14 +9,20 @@ use Rattle.fusb302.proofs.device.Device.control3_written.Tie as tie
 has-requires : tie.Need-has-requires
 has-requires c κs = search needs
 
-empty-requires : tie.Need-empty-requires
-empty-requires c κs = search needs
-
 slice-aggregate-put : tie.Need-slice-aggregate-put
 slice-aggregate-put c = search needs
 
 put-requires : tie.Need-put-requires
-put-requires c κs = (Whole.alone (omega arith) (omega arith) refl, c .before .before .before .before .before .before .before .before .before .before .before .pre .1)
+put-requires c κs = (reset-whole, c .before .before .before .before .before .pre .1)
+
+over-requires : tie.Need-over-requires
+over-requires c κs = search needs
+
+hides-fails-requires : tie.Need-hides-fails-requires
+hides-fails-requires c κs = search needs
+
+raises-a-requires : tie.Need-raises-a-requires
+raises-a-requires c κs = search needs
 
 done-requires : tie.Need-done-requires
 done-requires c κs = search needs
@@ -28,22 +33,24 @@ same-length c = search needs
 returns : tie.Need-returns
 returns c =
     rw (c .done .ensures)
-    (control3-sends _ (c .before .before .before .before .before .before .before .before .before .before .before .before .before .before .before .pre .0) _ _ (sym (c .before .before .before .before .before .before .before .before .before .before .before .before .before .has .ensures) ∙ c .before .before .before .before .before .before .before .before .before .before .before .before .if1 .taken) _ (c .before .before .before .before .before .before .before .before .before .before .before .empty .ensures .0) (c .before .before .before .before .before .before .before .before .before .before .before .empty .ensures .1) _ _ (c .before .before .before .put .ensures))
+    (control3-sends (c .before .before .before .before .before .before .before .before .before .before .before .before .args .self) _ _ (sym (c .before .before .before .before .before .before .before .before .before .before .has .ensures) ∙ c .before .before .before .before .before .before .before .before .before .if1 .taken) (c .before .before .before .over .result) (c .before .before .hides-fails .result) (c .before .raises-a .result) (c .before .before .before .over .ensures) (c .before .before .hides-fails .ensures) (c .before .raises-a .ensures) _ _ (c .before .before .before .before .before .before .put .ensures))
 
 done-requires-2 : tie.Need-done-requires-2
 done-requires-2 c κs = search needs
 
 returns-2 : tie.Need-returns-2
-returns-2 c = rw (c .done2 .ensures) (control3-rests _ (c .before .before .before .before .pre .0) _ _ (sym (c .before .before .has .ensures) ∙ c .before .if1 .left))
+returns-2 c = rw (c .done2 .ensures) (control3-rests (c .before .before .before .before .args .self) _ _ (sym (c .before .before .has .ensures) ∙ c .before .if1 .left) (c .before .before .before .before .pre .0))
 
 pub control3-written-spec : {M : Type 1} → statement M
 control3-written-spec =
     tie.close
     (tie.spec
     has-requires
-    empty-requires
     slice-aggregate-put
     put-requires
+    over-requires
+    hides-fails-requires
+    raises-a-requires
     done-requires
     same-length
     returns

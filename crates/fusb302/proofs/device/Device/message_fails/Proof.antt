@@ -1,14 +1,27 @@
--- The queue is empty and the bits are set; the request goes on with the Soft_Reset if that was latched, else it is over.
+-- The bits are set; the request goes on with the Soft_Reset if that was latched, else it is over.
 use borrow.Author.Needs.{needs}
+use Rattle.fusb302.proofs.Becoming.{over-noted}
 use Rattle.fusb302.proofs.Waiting.{message-ends, message-soft}
 use Rattle.fusb302.proofs.device.Device.message_fails.Statement.{statement}
 use Rattle.fusb302.proofs.device.Device.message_fails.Tie as tie
 
-empty-requires : tie.Need-empty-requires
-empty-requires c κs = search needs
+over-requires : tie.Need-over-requires
+over-requires c κs = search needs
+
+shows-requires : tie.Need-shows-requires
+shows-requires c κs = search needs
+
+raises-a-requires : tie.Need-raises-a-requires
+raises-a-requires c κs = search needs
 
 put-control-requires : tie.Need-put-control-requires
 put-control-requires c κs = search needs
+
+goes-on-requires : tie.Need-goes-on-requires
+goes-on-requires c κs = search needs
+
+requests-requires : tie.Need-requests-requires
+requests-requires c κs = search needs
 
 done-requires : tie.Need-done-requires
 done-requires c κs = search needs
@@ -18,24 +31,28 @@ same-length c = search needs
 
 returns : tie.Need-returns
 returns c =
-    let start = c .before .before .before .before .before .before .before .before .before .before .before .before .before .before .before in
+    let h = over-noted (c .before .before .before .before .before .before .before .before .before .before .before .before .before .args .self) (c .before .before .before .before .before .before .before .before .before .before .before .over .result) (c .before .before .before .before .before .before .before .before .before .before .shows .result) (c .before .before .before .before .before .before .before .before .before .raises-a .result) _ _ (c .before .before .before .before .before .before .before .before .before .before .before .over .ensures) (c .before .before .before .before .before .before .before .before .before .before .shows .ensures) (c .before .before .before .before .before .before .before .before .before .raises-a .ensures) in
     rw (c .done .ensures)
-    (message-soft (start .args .self) (start .pre .0) _ (c .before .before .before .before .before .before .before .before .before .before .before .before .before .empty .ensures) _ (c .before .before .before .before .before .before .before .before .if1 .taken) (start .pre .1) _ _ _ (c .before .before .before .put-control .ensures))
+    (message-soft (c .before .before .before .before .before .before .before .before .before .before .before .before .before .args .self) (c .before .before .before .before .before .before .before .before .before .raises-a .result) _ _ h (c .before .before .before .before .before .before .before .if1 .taken) (c .before .before .before .before .before .before .before .before .before .before .before .before .before .pre .1) (c .before .before .goes-on .result) (c .before .before .goes-on .ensures) (c .before .requests .result) (c .before .requests .ensures) _ _ (c .before .before .before .before .before .put-control .ensures))
 
 done-requires-2 : tie.Need-done-requires-2
 done-requires-2 c κs = search needs
 
 returns-2 : tie.Need-returns-2
 returns-2 c =
-    let start = c .before .before .before .before .before .before .before .before .before in
-    rw (c .done2 .ensures) (message-ends (start .args .self) (start .pre .0) _ (c .before .before .before .before .before .before .before .empty .ensures) _ (c .before .before .if1 .left) _)
+    let h = over-noted (c .before .before .before .before .before .before .before .args .self) (c .before .before .before .before .before .over .result) (c .before .before .before .before .shows .result) (c .before .before .before .raises-a .result) _ _ (c .before .before .before .before .before .over .ensures) (c .before .before .before .before .shows .ensures) (c .before .before .before .raises-a .ensures) in
+    rw (c .done2 .ensures) (message-ends (c .before .before .before .before .before .before .before .args .self) (c .before .before .before .raises-a .result) _ _ h (c .before .if1 .left))
 
 pub message-fails-spec : {M : Type 1} → statement M
 message-fails-spec =
     tie.close
     (tie.spec
-    empty-requires
+    over-requires
+    shows-requires
+    raises-a-requires
     put-control-requires
+    goes-on-requires
+    requests-requires
     done-requires
     same-length
     returns

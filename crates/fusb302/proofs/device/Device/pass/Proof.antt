@@ -22,14 +22,20 @@ cast-waited c = search needs
 add-waited : tie.Need-add-waited
 add-waited c = search needs
 
-cast-so-far : tie.Need-cast-so-far
-cast-so-far c = search needs
+cast-goes-on : tie.Need-cast-goes-on
+cast-goes-on c = search needs
+
+goes-on-requires : tie.Need-goes-on-requires
+goes-on-requires c κs = search needs
+
+requests-requires : tie.Need-requests-requires
+requests-requires c κs = search needs
 
 done-requires : tie.Need-done-requires
 done-requires c κs = search needs
 
 returns-3 : tie.Need-returns-3
-returns-3 c = rw (c .done .ensures) (pass-waits _ (c .before .before .before .before .before .before .before .before .pre) _ _ (c .before .before .before .before .before .before .if1 .left) (c .before .before .before .before .before .if2 .left) (c .before .before .before .before .if3 .taken) (c .before .before .if4 .taken))
+returns-3 c = rw (c .done .ensures) (pass-waits _ (c .before .before .before .before .before .before .before .before .before .before .pre) _ _ (c .before .before .before .before .before .before .before .before .if1 .left) (c .before .before .before .before .before .before .before .if2 .left) (c .before .before .before .before .before .if3 .taken) (c .before .before .before .if4 .taken) (c .before .before .goes-on .result) (c .before .before .goes-on .ensures) (c .before .requests .result) (c .before .requests .ensures))
 
 cast-expire : tie.Need-cast-expire
 cast-expire c = search needs
@@ -41,13 +47,13 @@ same-length : tie.Need-same-length
 same-length c = search needs
 
 returns-4 : tie.Need-returns-4
-returns-4 c = pass-expires _ (c .before .before .before .before .before .before .before .before .before .before .pre) _ _ (c .before .before .before .before .before .before .before .before .if1 .left) (c .before .before .before .before .before .before .before .if2 .left) (c .before .before .before .before .before .before .if3 .taken) (c .before .before .before .before .if4 .left) _ _ (c .before .before .expire .ensures)
+returns-4 c = pass-expires _ (c .before .before .before .before .before .before .before .before .before .before .before .pre) _ _ (c .before .before .before .before .before .before .before .before .before .if1 .left) (c .before .before .before .before .before .before .before .before .if2 .left) (c .before .before .before .before .before .before .if3 .taken) (c .before .before .before .before .if4 .left) _ _ (c .before .before .expire .ensures)
 
 done-requires-2 : tie.Need-done-requires-2
 done-requires-2 c κs = search needs
 
 returns-5 : tie.Need-returns-5
-returns-5 c = rw (c .done2 .ensures) (pass-idle _ (c .before .before .before .before .before .pre) _ _ (c .before .before .before .if1 .left) (c .before .before .if2 .left) (c .before .if3 .left))
+returns-5 c = rw (c .done2 .ensures) (pass-idle _ (c .before .before .before .before .before .before .pre) _ _ (c .before .before .before .before .if1 .left) (c .before .before .before .if2 .left) (c .before .if3 .left))
 
 pub pass-spec : {M : Type 1} → statement M
 pass-spec =
@@ -59,7 +65,9 @@ pass-spec =
     returns-2
     cast-waited
     add-waited
-    cast-so-far
+    cast-goes-on
+    goes-on-requires
+    requests-requires
     done-requires
     returns-3
     cast-expire

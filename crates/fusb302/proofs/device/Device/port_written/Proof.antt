@@ -18,20 +18,14 @@ same-length c = search needs
 returns : tie.Need-returns
 returns c = port-begins _ (c .before .before .before .before .before .before .before .before .pre .0 .arranged) _ _ (sym (c .before .before .before .before .before .is-start .ensures) ∙ c .before .before .before .before .if1 .taken) _ _ (c .before .before .begin .ensures)
 
-push-requires : tie.Need-push-requires
-push-requires c κs =
-    (c .before .before .before .before .pre .0 .arranged .tx, port-room _ (c .before .before .before .before .pre .0 .arranged) _ (c .before .before .before .before .pre .1) (sym (c .before .is-start .ensures) ∙ c .if1 .left))
-
-flag-requires : tie.Need-flag-requires
-flag-requires c κs = search needs
+queue-requires : tie.Need-queue-requires
+queue-requires c κs = (c .before .before .before .before .pre .0 .arranged, port-room _ (c .before .before .before .before .pre .0 .arranged) _ (c .before .before .before .before .pre .1) (sym (c .before .is-start .ensures) ∙ c .if1 .left))
 
 done-requires : tie.Need-done-requires
 done-requires c κs = search needs
 
 returns-2 : tie.Need-returns-2
-returns-2 c =
-    rw (c .done .ensures)
-    (port-queues _ (c .before .before .before .before .before .before .before .before .before .before .pre .0 .arranged) _ _ (sym (c .before .before .before .before .before .before .before .is-start .ensures) ∙ c .before .before .before .before .before .before .if1 .left) _ (c .before .before .before .before .before .push .ensures .0) (c .before .before .before .before .before .push .ensures .1) _ (c .before .before .before .flag .ensures .0))
+returns-2 c = rw (c .done .ensures) (port-queues _ (c .before .before .before .before .before .before .pre .0 .arranged) _ _ (sym (c .before .before .before .is-start .ensures) ∙ c .before .before .if1 .left) (c .before .queue .result) (c .before .queue .ensures))
 
 pub port-written-spec : {M : Type 1} → statement M
 port-written-spec =
@@ -41,7 +35,6 @@ port-written-spec =
     begin-requires
     same-length
     returns
-    push-requires
-    flag-requires
+    queue-requires
     done-requires
     returns-2)

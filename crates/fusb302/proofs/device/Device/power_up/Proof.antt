@@ -1,4 +1,4 @@
--- Both FIFOs are empty and all else is literal.
+-- Both FIFOs are empty, the status cleared, and all else is literal.
 use borrow.Author.Needs.{needs}
 use mathlib.Core.Path.{refl}
 use Rattle.fusb302.proofs.Answering.{powered}
@@ -11,8 +11,11 @@ empty-requires c κs = search needs
 empty-requires-2 : tie.Need-empty-requires-2
 empty-requires-2 c κs = search needs
 
+cleared-requires : tie.Need-cleared-requires
+cleared-requires c κs = search needs
+
 returns : tie.Need-returns
-returns c = powered (c .before .empty .result) (c .empty2 .result) (c .before .empty .ensures .1) (c .empty2 .ensures .1) (record { cells = refl; tx = c .before .empty .ensures .0; rx = c .empty2 .ensures .0 })
+returns c = powered (c .before .before .empty .result) (c .before .empty2 .result) (c .cleared .result) (c .before .before .empty .ensures .1) (c .before .empty2 .ensures .1) (c .cleared .ensures) (record { cells = refl; tx = c .before .before .empty .ensures .0; rx = c .before .empty2 .ensures .0 })
 
 pub power-up-spec : {M : Type 1} → statement M
-power-up-spec = tie.close (tie.spec empty-requires empty-requires-2 returns)
+power-up-spec = tie.close (tie.spec empty-requires empty-requires-2 cleared-requires returns)

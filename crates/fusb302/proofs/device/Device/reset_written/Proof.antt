@@ -1,4 +1,4 @@
--- As after power-up; or both FIFOs, the request and the status are cleared; or nothing is done.
+-- As after power-up; or PD_RESET; or nothing is done.
 use borrow.Author.Needs.{needs}
 use mathlib.Core.Path.{sym, _∙_}
 use Rattle.fusb302.proofs.Writing.{reset-restores, reset-clears, reset-rests}
@@ -15,30 +15,25 @@ done-requires : tie.Need-done-requires
 done-requires c κs = search needs
 
 returns : tie.Need-returns
-returns c = rw (c .done .ensures) (reset-restores _ (c .before .before .before .before .pre) _ (sym (c .before .before .before .has .ensures) ∙ c .before .before .if1 .taken) _ (c .before .power-up .ensures))
+returns c = rw (c .done .ensures) (reset-restores (c .before .before .before .before .args .self) _ (sym (c .before .before .before .has .ensures) ∙ c .before .before .if1 .taken) (c .before .power-up .result) (c .before .power-up .ensures))
 
 has-requires-2 : tie.Need-has-requires-2
 has-requires-2 c κs = search needs
 
-empty-requires : tie.Need-empty-requires
-empty-requires c κs = search needs
-
-empty-requires-2 : tie.Need-empty-requires-2
-empty-requires-2 c κs = search needs
+pd-reset-requires : tie.Need-pd-reset-requires
+pd-reset-requires c κs = search needs
 
 done-requires-2 : tie.Need-done-requires-2
 done-requires-2 c κs = search needs
 
 returns-2 : tie.Need-returns-2
-returns-2 c =
-    rw (c .done2 .ensures)
-    (reset-clears _ (c .before .before .before .before .before .before .before .before .pre) _ (sym (c .before .before .before .before .before .before .before .has .ensures) ∙ c .before .before .before .before .before .before .if1 .left) (sym (c .before .before .before .before .before .has2 .ensures) ∙ c .before .before .before .before .if2 .taken) _ (c .before .before .before .empty .ensures .0) (c .before .before .before .empty .ensures .1) _ (c .before .before .empty2 .ensures .0) (c .before .before .empty2 .ensures .1))
+returns-2 c = rw (c .done2 .ensures) (reset-clears (c .before .before .before .before .before .before .args .self) _ (sym (c .before .before .before .before .before .has .ensures) ∙ c .before .before .before .before .if1 .left) (sym (c .before .before .before .has2 .ensures) ∙ c .before .before .if2 .taken) (c .before .pd-reset .result) (c .before .pd-reset .ensures))
 
 done-requires-3 : tie.Need-done-requires-3
 done-requires-3 c κs = search needs
 
 returns-3 : tie.Need-returns-3
-returns-3 c = rw (c .done3 .ensures) (reset-rests _ (c .before .before .before .before .before .pre) _ (sym (c .before .before .before .before .has .ensures) ∙ c .before .before .before .if1 .left) (sym (c .before .before .has2 .ensures) ∙ c .before .if2 .left))
+returns-3 c = rw (c .done3 .ensures) (reset-rests (c .before .before .before .before .before .args .self) _ (sym (c .before .before .before .before .has .ensures) ∙ c .before .before .before .if1 .left) (sym (c .before .before .has2 .ensures) ∙ c .before .if2 .left) (c .before .before .before .before .before .pre))
 
 pub reset-written-spec : {M : Type 1} → statement M
 reset-written-spec =
@@ -49,8 +44,7 @@ reset-written-spec =
     done-requires
     returns
     has-requires-2
-    empty-requires
-    empty-requires-2
+    pd-reset-requires
     done-requires-2
     returns-2
     done-requires-3

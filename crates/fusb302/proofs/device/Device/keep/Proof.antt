@@ -1,0 +1,23 @@
+-- The packet is in Rx behind its token, and I_ALERT is set if that made it full.
+use borrow.Author.Needs.{needs}
+use Rattle.fusb302.proofs.Hearing.{room-count, keeps-on, keeps-full}
+use Rattle.fusb302.proofs.device.Device.keep.Statement.{statement}
+use Rattle.fusb302.proofs.device.Device.keep.Tie as tie
+
+rx-token-requires : tie.Need-rx-token-requires
+rx-token-requires c κs = search needs
+
+store-requires : tie.Need-store-requires
+store-requires c κs = (c .before .before .before .pre .0 .rx, room-count (c .before .before .before .args .self) (c .before .before .before .pre .0) (c .before .before .before .args .packet .now) (c .before .before .before .pre .2))
+
+raises-requires : tie.Need-raises-requires
+raises-requires c κs = search needs
+
+returns : tie.Need-returns
+returns c = keeps-full (c .before .before .before .before .before .before .before .before .args .self) (c .before .before .before .before .before .before .before .before .pre .0) _ (c .before .before .before .before .before .before .before .before .pre .1) _ _ (c .before .before .before .before .before .rx-token .ensures) (c .before .before .before .before .store .result) (c .before .before .before .before .store .ensures) (c .before .if1 .taken) (c .raises .result) (c .raises .ensures)
+
+returns-2 : tie.Need-returns-2
+returns-2 c = keeps-on (c .before .before .before .before .before .before .before .args .self) (c .before .before .before .before .before .before .before .pre .0) _ (c .before .before .before .before .before .before .before .pre .1) _ _ (c .before .before .before .before .rx-token .ensures) (c .before .before .before .store .result) (c .before .before .before .store .ensures) (c .if1 .left)
+
+pub keep-spec : {M : Type 1} → statement M
+keep-spec = tie.close (tie.spec rx-token-requires store-requires raises-requires returns returns-2)

@@ -1,0 +1,2 @@
+-- The proofs of specs/Theorems.antt.
+pub mod Living
