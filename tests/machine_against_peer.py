@@ -1,5 +1,6 @@
 #!/usr/bin/env python3
-"""The machine's definitions against the peer, an independent program: random histories, event by event.
+"""The machine's definitions against the peer, an independent program, event by event: histories made for one rule each, and
+random ones.
 
     tests/machine_against_peer.py PEER [SEED [HISTORIES [LENGTH]]]
 
@@ -8,15 +9,17 @@ copy of the crates under target/, and the checker computes them all.
 """
 import os
 import random
+import re
 import shutil
 import subprocess
 import sys
 
+from directed import directed
 from histories import Histories, as_line
 
 SCRATCH = 'target/tests/machine'
 
-HEAD = '''-- Random histories, with what another program answers.
+HEAD = '''-- Histories, with what another program answers.
 -- Assumes nothing.
 use mathlib.Core.Path.{_≡_, refl}
 use mathlib.Core.Bool.{Bool, true, false}
@@ -81,25 +84,31 @@ def theorem(number, peer, events):
 
 def main():
     peer = sys.argv[1]
-    seed, histories, length = [int(word) for word in sys.argv[2:5]] + [20, 60, 250][len(sys.argv) - 2:]
+    seed, count, length = [int(word) for word in sys.argv[2:5]] + [20, 60, 250][len(sys.argv) - 2:]
+    named = directed()
+    maker = Histories(random.Random(seed))
+    for number in range(count):
+        named['random history %d of seed %d' % (number, seed)] = maker.history(length)
+    names = list(named)
     shutil.rmtree(SCRATCH, ignore_errors=True)
     os.makedirs(SCRATCH + '/target')
     for folder in ('crates/line', 'crates/machine', 'target/rlib', 'target/stamp'):
         shutil.copytree(folder, os.path.join(SCRATCH, folder))
     with open(SCRATCH + '/crates.txt', 'w', encoding='utf-8') as crates:
         crates.write('line:\nmachine: line\n')
-    maker = Histories(random.Random(seed))
     with open(SCRATCH + '/crates/machine/proofs/Tried.antt', 'w', encoding='utf-8') as tried:
         tried.write(HEAD)
-        for number in range(histories):
-            tried.write(theorem(number, peer, maker.history(length)))
+        for number, name in enumerate(names):
+            tried.write(theorem(number, peer, named[name]))
     with open(SCRATCH + '/crates/machine/proofs/Lib.antt', 'a', encoding='utf-8') as lib:
         lib.write('pub mod Tried\n')
     run = subprocess.run(['rt', 'check', 'machine'], cwd=SCRATCH, capture_output=True, text=True)
     if run.returncode != 0:
-        wrong = [line for line in run.stdout.splitlines() + run.stderr.splitlines() if 'Tried.antt' in line]
-        sys.exit('machine against peer: seed %d: %s' % (seed, (wrong or [run.stdout[-400:]])[0][:400]))
-    print('machine against peer: %d histories of %d events agree, seed %d' % (histories, length, seed))
+        said = run.stdout + run.stderr
+        wrong = re.search(r'Tried\.antt[^\n]*`t(\d+)`', said)
+        sys.exit('machine against peer: %s' % (names[int(wrong.group(1))] if wrong else said[-400:]))
+    print('machine against peer: %d directed histories and %d random ones of %d events agree, seed %d' % (
+        len(names) - count, count, length, seed))
 
 
 main()

@@ -1,0 +1,165 @@
+"""Histories made for one rule of 01 each, by name: what random ones may miss. Events as in histories.py."""
+from histories import SETS, with_crc
+
+NAME = [0x4F, 0x10, 0x6C, 0xC3, 0xA1, 0x21]
+
+
+def port(octets):
+    return [('w', 0x43, octet) for octet in octets]
+
+
+def queue(kind, message):
+    return SETS[kind] + [0x80 + len(message)] + message + [0xFF, 0x14, 0xFE]
+
+
+def statuses():
+    return [('r', address) for address in range(0x3C, 0x43)]
+
+
+def started(control3, kind=0, message=NAME):
+    """A message sent with these retries and resets, the driver on."""
+    return [('w', 0x03, 0x25), ('w', 0x09, control3)] + port(queue(kind, message)) + [('w', 0x43, 0xA1)]
+
+
+def heard(kind, message):
+    return [('p', kind, with_crc(message))]
+
+
+def good_crc(message_id, more=0):
+    header = 1 | message_id << 9 | more
+    return [header & 255, header >> 8]
+
+
+def every_address():
+    every = range(256)
+    return {
+        'every address read': [('r', a) for a in every],
+        'every address written with 00': [('w', a, 0x00) for a in every] + [('r', a) for a in every],
+        'every address written with FF': [('w', a, 0xFF) for a in every] + [('r', a) for a in every],
+        'every stored bit alone': [e for a in range(2, 0x11) for bit in range(8) for e in (('w', a, 1 << bit), ('r', a))],
+    }
+
+
+def command_bits():
+    ready = [('w', 0x03, 0x25), ('w', 0x07, 0x73)] + heard(1, [0x43, 0x0A]) + port(queue(0, NAME))
+    commands = [(0x06, v) for v in (0x01, 0x40, 0x41, 0x6F)] + [(0x07, v) for v in (0x04, 0x77)]
+    commands += [(0x09, v) for v in (0x40, 0x46, 0x7F)] + [(0x0C, v) for v in (0x01, 0x02, 0x03, 0xFE)]
+    named = {}
+    for address, value in commands:
+        for opened in (0, 1):
+            name = '%02X written %02X, a request %s' % (address, value, 'open' if opened else 'not open')
+            named[name] = ready + [('w', 0x43, 0xA1)] * opened + [('w', address, value), ('r', address)] + statuses()
+    return named
+
+
+def off(switches1):
+    """Start and SEND_HARD_RESET with the driver off."""
+    return [('w', 0x03, switches1), ('w', 0x09, 0x46)] + port(queue(0, NAME) + [0xA1]) + [('w', 0x06, 0x01), ('w', 0x06, 0x40)]
+
+
+def refusals():
+    full = [('w', 0x43, 0x12)] * 48
+    opened = started(0x00)
+    return {
+        '1: no such address': [('r', 0x00), ('w', 0x11, 1), ('w', 0x44, 1), ('r', 0xFF)],
+        '2: read only': [('w', 0x01, 1)] + [('w', a, 1) for a in range(0x3C, 0x43)],
+        '6: port and TX_START, request open': opened + port([0x12, 0x00, 0xA1]) + [('w', 0x06, 0x01), ('w', 0x06, 0x41)],
+        '3: no token': [('w', 0x43, v) for v in range(256) if v != 0xA1 and not 0x82 <= v <= 0x9E],
+        '5: 48 held': full + port([0x12, 0x00, 0xA1]) + statuses(),
+        '5: data, 48 held': [('w', 0x43, 0x12)] * 47 + [('w', 0x43, 0x9E), ('w', 0x43, 0xA1), ('r', 0x41)],
+        '4: not a message': [('w', 0x03, 0x20), ('w', 0x43, 0xA1), ('w', 0x06, 0x01), ('w', 0x06, 0x41)],
+        '7: driver off': off(0x20) + off(0x23),
+        '8: nothing held': [('r', 0x43)] + heard(0, [0x43, 0x0A]) + [('r', 0x43)] * 8,
+        '11 and 9: kind and length': [('p', kind, [0] * n) for kind in (0, 4, 5, 9999999) for n in (0, 5, 6, 34, 35)],
+        '10: time': opened + [('t', n) for n in (1001, 9999999, 1000, 0)],
+    }
+
+
+def almost_messages():
+    on = [('w', 0x03, 0x21)]
+    whole = queue(2, NAME)
+    named = {
+        'a message of each kind': [e for kind in range(5) for e in started(0x00, kind) + [('t', 1000)]],
+        'a block of 2 and one of 30': [e for n in (2, 30) for e in started(0x00, 0, [0xA1] * n) + [('t', 1000)]],
+        'reset tokens alone': on + port([0x15, 0x15, 0x15, 0x16, 0xA1]),
+        'reset tokens as a set': on + port([0x15, 0x15, 0x15, 0x16] + whole[4:] + [0xA1]),
+        'two blocks': on + port(whole[:11] + whole[4:] + [0xA1]),
+    }
+    for at in range(len(whole)):
+        named['a message without its octet %d' % at] = on + port(whole[:at] + whole[at + 1:] + [0xA1]) + [('w', 0x06, 0x01), ('r', 0x41)]
+    for more in (0x12, 0xFE, 0x82):
+        named['a message and %02X' % more] = on + port(whole + [more]) + [('w', 0x06, 0x01), ('r', 0x41)]
+    return named
+
+
+def requests():
+    named = {}
+    for control3 in range(0x20):
+        waits = [e for _ in range(10) for e in (('t', 1000), ('r', 0x3C), ('r', 0x3E))]
+        named['to the end with 09 = %02X' % control3] = started(control3) + waits
+    parts = [('t', n) for n in (999, 2, 998, 1, 700, 700, 600)]
+    named['the rest of a time event counts'] = started(0x07) + parts
+    changed = [('w', 0x03, 0x80), ('w', 0x09, 0x00), ('w', 0x06, 0x04)]
+    named['03 and 09 changed in mid-request'] = started(0x1B) + [('t', 1000)] + changed + [('t', 1000)] * 6 + statuses()
+    named['09 raised in mid-request'] = started(0x01) + [('w', 0x09, 0x1F)] + [('t', 1000)] * 3 + statuses()
+    named['dropped by a Hard Reset heard'] = started(0x07) + [('h',), ('t', 1000)] + statuses() + [('w', 0x43, 0x12)]
+    return named
+
+
+def good_crcs():
+    sent = [0x4F, 0x1A]
+    named = {}
+    for phase, waits in (('message', []), ('Soft_Reset', [('t', 1000)])):
+        for kind in range(5):
+            for on in (0x00, 0x73):
+                for message_id in (0, 5):
+                    name = 'GoodCRC of kind %d and MessageID %d for a %s on kind 2, 07 = %02X' % (kind, message_id, phase, on)
+                    named[name] = started(0x08, 2, sent) + [('w', 0x07, on)] + waits + heard(kind, good_crc(message_id)) + statuses()
+    for more in (0x10, 0x8000, 0x8010, 0x1000):
+        named['GoodCRC with %04X set' % more] = started(0x00, 0, sent) + heard(0, good_crc(5, more)) + statuses()
+        named['Soft_Reset with %04X set' % more] = heard(0, [0x0D | more & 255, more >> 8]) + statuses()
+    named['GoodCRC with octets behind it'] = started(0x00, 0, sent) + heard(0, good_crc(5) + [0, 0]) + statuses()
+    named['the awaited GoodCRC, Rx full'] = heard(0, [0] * 30) * 2 + started(0x00, 0, sent) + heard(0, good_crc(5)) * 2 + statuses()
+    return named
+
+
+def packets():
+    long = heard(0, [0] * 30)
+    wrong = [('p', 0, with_crc([0x43, 0x0A])[:-1] + [0])]
+    checked = [('r', 0x40), ('r', 0x42)]
+    named = {
+        'read empty, then stored again': long + [('r', 0x43)] * 36 + long + statuses(),
+        'CRC right, wrong and right': heard(0, [0x43, 0x0A]) + checked + wrong + checked + heard(0, [0x43, 0x0C]) + checked,
+    }
+    for n in (4, 5, 6, 7):
+        named['a packet of 34 with %d held' % (40 + n)] = long + heard(0, [0] * n) + long + statuses() + long + statuses()
+    each = [e for kind in range(5) for e in heard(kind, [0x43, 0x0A]) + [('r', 0x3D), ('r', 0x41), ('r', 0x3F)]]
+    for switches1 in (0x25, 0xB5, 0xF6, 0x27, 0x24, 0x21):
+        for control0 in (0x04, 0x06):
+            set_up = [('w', 0x03, switches1), ('w', 0x06, control0), ('w', 0x07, 0x73)]
+            named['heard with 03 = %02X and 06 = %02X' % (switches1, control0)] = set_up + each
+    return named
+
+
+def masks():
+    named = {}
+    happens = started(0x00) + heard(0, good_crc(0)) + heard(0, [0x43, 0x0A]) + [('h',)]
+    for mask in (0x00, 0xFF):
+        for control0 in (0x04, 0x24):
+            set_up = [('w', 0x0A, mask), ('w', 0x0E, mask), ('w', 0x0F, mask), ('w', 0x06, control0)]
+            named['masks %02X, 06 = %02X' % (mask, control0)] = set_up + happens + statuses()
+    return named
+
+
+def not_built():
+    stored = {0x02: 0xFF, 0x04: 0x7F, 0x05: 0xFF, 0x08: 0xEF, 0x0B: 0x0F, 0x0D: 0x0F, 0x10: 0x01}
+    written = [('w', address, value) for address, value in stored.items()]
+    return {'stored bits of what is not built, and their status': written + [('t', 1000)] + [('r', a) for a in stored] + statuses()}
+
+
+def directed():
+    """Every history by its name."""
+    named = {}
+    for part in (every_address, command_bits, refusals, almost_messages, requests, good_crcs, packets, masks, not_built):
+        named.update(part())
+    return named
