@@ -1,0 +1,65 @@
+-- A count that is read is below ten million, and so is the number of its last line.
+use borrow.Author.Needs.{needs}
+use native.Mathlib.Omega.{arith}
+use Rattle.bench.proofs.Counting.{few-is}
+use Rattle.bench.proofs.part.Statement.{statement}
+use Rattle.bench.proofs.part.Tie as tie
+
+count-line-requires : tie.Need-count-line-requires
+count-line-requires c κs = search needs
+
+add-first : tie.Need-add-first
+add-first c = search needs
+
+enum-known-said : tie.Need-enum-known-said
+enum-known-said c = search needs
+
+lines-requires : tie.Need-lines-requires
+lines-requires c κs =
+    (c .before .before .before .before .before .before .before .before .before .before .before .before .before .before .before .before .pre .0, c .before .before .before .before .before .before .before .before .before .before .before .count-line .ensures .0, few-is (c .before .before .before .before .before .before .before .before .before .before .before .count-line .result .number) _ (c .before .before .before .before .before .before .before .before .before .before .before .count-line .ensures .1) (c .before .before .before .before .before .before .said .given .1), omega (arith, c .before .before .before .before .before .before .before .before .before .before .before .before .before .before .before .before .pre .2), search (needs, c .before .before .before .before .before .before .before .before .before .before .before .before .before .before .before .before .pre .3), search (needs, c .before .before .before .before .before .before .before .before .before .before .before .before .before .before .before .before .pre .4))
+
+add-t30 : tie.Need-add-t30
+add-t30 c = search (needs, few-is (c .before .before .before .before .before .before .before .before .before .before .before .before .before .before .before .before .before .before .count-line .result .number) _ (c .before .before .before .before .before .before .before .before .before .before .before .before .before .before .before .before .before .before .count-line .ensures .1) (c .before .before .before .before .before .before .before .before .before .before .before .before .before .said .given .1), c .before .before .before .before .before .before .before .before .before .before .before .before .before .before .before .before .before .before .before .before .before .before .before .pre .2)
+
+enum-told : tie.Need-enum-told
+enum-told c = search needs
+
+bad-requires : tie.Need-bad-requires
+bad-requires c κs = search needs
+
+same-length : tie.Need-same-length
+same-length c = search needs
+
+same-length-2 : tie.Need-same-length-2
+same-length-2 c = search needs
+
+returns : tie.Need-returns
+returns c =
+    (c .before .before .before .before .before .before .lines .ensures .0, c .before .before .before .before .before .before .lines .ensures .1, omega (arith, few-is (c .before .before .before .before .before .before .before .before .before .before .before .before .before .before .before .before .before .before .count-line .result .number) _ (c .before .before .before .before .before .before .before .before .before .before .before .before .before .before .before .before .before .before .count-line .ensures .1) (c .before .before .before .before .before .before .before .before .before .before .before .before .before .said .given .1)))
+
+same-length-3 : tie.Need-same-length-3
+same-length-3 c = search needs
+
+same-length-4 : tie.Need-same-length-4
+same-length-4 c = search needs
+
+returns-2 : tie.Need-returns-2
+returns-2 c = search needs
+
+pub part-spec : {M : Type 1} → statement M
+part-spec =
+    tie.close
+    (tie.spec
+    count-line-requires
+    add-first
+    enum-known-said
+    lines-requires
+    add-t30
+    enum-told
+    bad-requires
+    same-length
+    same-length-2
+    returns
+    same-length-3
+    same-length-4
+    returns-2)

@@ -1,0 +1,8 @@
+-- Laws that the functions' proofs share, and the proofs of specs/Theorems.antt.
+pub mod Chars
+pub mod Masks
+pub mod Numbers
+pub mod Octets
+pub mod Lines
+pub mod Texts
+pub mod Outcomes

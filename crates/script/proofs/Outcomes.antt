@@ -1,0 +1,35 @@
+-- No second outcome: each promise says all of what it gives.
+-- Assumes nothing.
+use mathlib.Core.Path.{_≡_, refl, sym, ap, _∙_}
+use mathlib.Core.Bool.{true, false}
+use mathlib.Core.Option.{Option, none, some}
+use Prim.Native.Nat.{ℕ}
+use Rattle.script.specs.declared.parse.Number.{Number}
+use Rattle.script.specs.declared.parse.Number.the-variants.{Is, Not}
+use Rattle.script.specs.Parse.{counted}
+use Rattle.script.specs.Print.{Prints}
+use Rattle.script.specs.Theorems.{OneCount, OneSetup, OneParsing, OnePrinting}
+
+-- the number that says a count
+numberOf : Option ℕ → Number
+numberOf none = Not
+numberOf (some n) = Is n
+
+number-back : (r : Number) → numberOf (counted r) ≡ r
+unfolding numberOf
+number-back (Is n) = refl
+number-back Not = refl
+
+pub one-count : OneCount
+one-count l r s p q = sym (number-back r) ∙ ap numberOf (p ∙ sym q) ∙ number-back s
+
+pub one-setup : OneSetup
+one-setup l r s p q = p ∙ sym q
+
+pub one-parsing : OneParsing
+one-parsing e before r s a b p q = (p .says ∙ sym (q .says), p .leaves ∙ sym (q .leaves))
+
+pub one-printing : OnePrinting
+unfolding Prints
+one-printing true before at t r s a b p q = (p .next ∙ sym (q .next), p .stands ∙ sym (q .stands))
+one-printing false before at t r s a b p q = (p .0 ∙ sym (q .0), p .1 ∙ sym (q .1))

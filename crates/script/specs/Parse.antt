@@ -1,0 +1,98 @@
+-- Which lines are in form, and what each means: a count, a setup write, or an event of the device.
+-- Assumes nothing.
+use mathlib.Core.Path.{_≡_}
+use mathlib.Core.Bool.{Bool, true, false, cond}
+use mathlib.Core.List.{List, [], _++_}
+use mathlib.Core.Option.{Option, none, some}
+use Prim.Native.Nat.{ℕ, _<_}
+use lib.Dec.{leb}
+use lib.ListN.{length, take, drop}
+use Rattle.line.specs.Write.{frameRoom}
+use Rattle.machine.specs.Events.{Event, write, read, pass, hardReset, packet}
+use Rattle.script.specs.declared.parse.Line.{Line}
+use Rattle.script.specs.declared.parse.Line.the-variants.{Write, Read, Time, HardReset, Packet, Bad}
+use Rattle.script.specs.declared.parse.Number.{Number}
+use Rattle.script.specs.declared.parse.Number.the-variants.{Is, Not}
+use Rattle.script.specs.Ascii.{text}
+use Rattle.script.specs.Text.{fits, octetAt, isDecimal, valueOf, digitsIn, areOctets, octetsIn}
+
+-- ---- counts: a decimal
+
+unfoldable pub countOf : List ℕ → Option ℕ
+countOf l = cond (isDecimal l) (some (valueOf l)) none
+
+-- ---- events: each is lent room for one frame
+
+-- `w aa vv`
+abbrev pub written : ℕ → ℕ → Event
+written a v = write frameRoom a v
+
+-- what follows `t `: a decimal
+abbrev pub timed : Option ℕ → Option Event
+timed none = none
+timed (some n) = some (pass frameRoom n)
+
+-- what follows `p `: the kind, and octets with a space before each, perhaps none
+unfoldable pub kindPart : List ℕ → List ℕ
+kindPart l = take (digitsIn l) l
+
+unfoldable pub octetPart : List ℕ → List ℕ
+octetPart l = drop (digitsIn l) l
+
+abbrev pub heard : Option ℕ → Bool → List ℕ → Option Event
+heard none b octets = none
+heard (some k) true octets = some (packet frameRoom k octets)
+heard (some k) false octets = none
+
+unfoldable pub packetOf : List ℕ → Option Event
+packetOf l = heard (countOf (kindPart l)) (areOctets (octetPart l)) (octetsIn (octetPart l))
+
+-- by its first letter
+unfoldable pub formOf : List ℕ → Option Event
+formOf l =
+    cond (fits (text "w ## ##") l) (some (written (octetAt 2 l) (octetAt 5 l)))
+    (cond (fits (text "r ##") l) (some (read frameRoom (octetAt 2 l)))
+    (cond (fits (text "h") l) (some (hardReset frameRoom))
+    (cond (fits (text "t ") (take 2 l)) (timed (countOf (drop 2 l)))
+    (cond (fits (text "p ") (take 2 l)) (packetOf (drop 2 l)) none))))
+
+-- a line of over 255 characters is out of form
+unfoldable pub eventOf : List ℕ → Option Event
+eventOf l = cond (leb (length l) 255) (formOf l) none
+
+-- `aa vv`
+unfoldable pub setupOf : List ℕ → Option Event
+setupOf l = cond (fits (text "## ##") l) (some (written (octetAt 0 l) (octetAt 3 l))) none
+
+-- ---- answers
+
+-- what a number says
+abbrev pub counted : Number → Option ℕ
+counted (Is n) = some n
+counted Not = none
+
+-- 7 digits write less than ten million
+abbrev pub Few : Number → Type 0
+Few (Is n) = n < 10000000
+Few Not = Unit {0}
+
+-- the answer that says an event, whose octets are lent beside it
+abbrev pub lineOf : Option Event → Line
+lineOf none = Bad
+lineOf (some (write r a v)) = Write a v
+lineOf (some (read r a)) = Read a
+lineOf (some (pass r n)) = Time n
+lineOf (some (hardReset r)) = HardReset
+lineOf (some (packet r k m)) = Packet k (length m)
+
+abbrev pub octetsOf : Option Event → List ℕ
+octetsOf none = []
+octetsOf (some (write r a v)) = []
+octetsOf (some (read r a)) = []
+octetsOf (some (pass r n)) = []
+octetsOf (some (hardReset r)) = []
+octetsOf (some (packet r k m)) = m
+
+pub record Parses (e : Option Event) (before : List ℕ) (r : Line) (after : List ℕ) : Type 0 where
+  pub says : r ≡ lineOf e
+  pub leaves : after ≡ octetsOf e ++ drop (length (octetsOf e)) before

@@ -1,0 +1,80 @@
+-- Characters and words: hex digits, decimals, masks, octets with a space before each.
+-- Assumes nothing.
+use mathlib.Core.Bool.{Bool, true, false, cond, _&&_, _||_}
+use mathlib.Core.List.{List, [], _∷_}
+use Prim.Native.Nat.{ℕ, suc, _+_, _*_, _-_}
+use lib.Dec.{leb, eqb}
+use lib.ListN.{length, getD}
+
+abbrev pub within : ℕ → ℕ → ℕ → Bool
+within lo hi c = leb lo c && leb c hi
+
+-- ---- hex: two capital digits
+
+-- 0 to 9, A to F
+unfoldable pub isHex : ℕ → Bool
+isHex c = within 0x30 0x39 c || within 0x41 0x46 c
+
+-- the value of a hex digit; 0 of any other character
+unfoldable pub nibbleOf : ℕ → ℕ
+nibbleOf c = cond (within 0x30 0x39 c) (c - 48) (cond (within 0x41 0x46 c) (c - 55) 0)
+
+-- the octet that two digits write
+unfoldable pub octetOf : ℕ → ℕ → ℕ
+octetOf a b = 16 * nibbleOf a + nibbleOf b
+
+unfoldable pub octetAt : ℕ → List ℕ → ℕ
+octetAt i l = octetOf (getD l i 0) (getD l (i + 1) 0)
+
+-- ---- a mask stands for lines of its length: # for any hex digit, each other character for itself
+
+unfoldable pub suits : ℕ → ℕ → Bool
+suits m c = cond (eqb m 0x23) (isHex c) (eqb m c)
+
+unfoldable pub fits : List ℕ → List ℕ → Bool
+fits [] [] = true
+fits [] (c ∷ l) = false
+fits (m ∷ ms) [] = false
+fits (m ∷ ms) (c ∷ l) = suits m c && fits ms l
+
+-- ---- decimals of 1 to 7 digits
+
+unfoldable pub isDigit : ℕ → Bool
+isDigit c = within 0x30 0x39 c
+
+unfoldable pub allDigits : List ℕ → Bool
+allDigits [] = true
+allDigits (c ∷ l) = isDigit c && allDigits l
+
+unfoldable pub isDecimal : List ℕ → Bool
+isDecimal l = within 1 7 (length l) && allDigits l
+
+-- the number of the digits, after those of v
+unfoldable pub onto : ℕ → List ℕ → ℕ
+onto v [] = v
+onto v (c ∷ l) = onto (10 * v + (c - 48)) l
+
+unfoldable pub valueOf : List ℕ → ℕ
+valueOf l = onto 0 l
+
+-- how many digits a line begins with
+unfoldable pub digitsIn : List ℕ → ℕ
+digitsIn [] = 0
+digitsIn (c ∷ l) = cond (isDigit c) (suc (digitsIn l)) 0
+
+-- ---- octets, a space before each
+
+unfoldable pub isOctet : ℕ → ℕ → ℕ → Bool
+isOctet s a b = eqb s 0x20 && (isHex a && isHex b)
+
+unfoldable pub areOctets : List ℕ → Bool
+areOctets [] = true
+areOctets (s ∷ []) = false
+areOctets (s ∷ a ∷ []) = false
+areOctets (s ∷ a ∷ b ∷ l) = isOctet s a b && areOctets l
+
+unfoldable pub octetsIn : List ℕ → List ℕ
+octetsIn [] = []
+octetsIn (s ∷ []) = []
+octetsIn (s ∷ a ∷ []) = []
+octetsIn (s ∷ a ∷ b ∷ l) = octetOf a b ∷ octetsIn l

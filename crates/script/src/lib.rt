@@ -1,0 +1,4 @@
+// The bench's text: a line of input to an event, an outcome to a line of output.
+mod hex;
+pub mod parse;
+pub mod print;

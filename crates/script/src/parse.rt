@@ -1,0 +1,204 @@
+// A line of input to what it means (01, 'On the bench table').
+use crate::hex::is_digit;
+use crate::hex::is_hex;
+use crate::hex::octet_at;
+ghost use mathlib.Core.Path.{_≡_};
+ghost use mathlib.Core.Bool.{true};
+ghost use Prim.Native.Nat.{_+_, _*_, _-_, _≤_, _<_};
+ghost use lib.ListN.{length};
+ghost use lib.Seq.{sets};
+ghost use Rattle.script.specs.Text.{suits, fits, digitsIn, isOctet, areOctets, octetsIn};
+ghost use Rattle.script.specs.Parse.{countOf, timed, packetOf, eventOf, setupOf, counted, Few, lineOf, Parses};
+
+// What a line says; a packet's octets stand beside it, at the beginning of those lent.
+pub enum Line {
+    Write(u8, u8),
+    Read(u8),
+    Time(u32),
+    HardReset,
+    Packet { kind: u32, count: usize },
+    Bad,
+}
+
+pub enum Number {
+    Is(u32),
+    Not,
+}
+
+// A character of a mask: # for any hex digit, each other for itself.
+fn suits(m: u8, c: u8) -> bool
+    ensures { λ r. ⌜ r ≡ suits m c ⌝ }
+{
+    if m == b'#' { is_hex(c) } else { m == c }
+}
+
+// Whether a line has the form that a mask shows.
+fn fits(mask: &[u8], line: &[u8]) -> bool
+    ensures { λ r. ⌜ r ≡ fits (now (mask .entry)) (now (line .entry)) ⌝ }
+{
+    if mask.len() != line.len() {
+        return false;
+    }
+    let mut i = 0;
+    while i < mask.len() {
+        if !suits(mask[i], line[i]) {
+            return false;
+        }
+        i += 1;
+    }
+    true
+}
+
+// The number that a digit makes of those before it.
+fn with_digit(v: u32, c: u8) -> u32
+    requires { ⌜ (v < 1000000) × (48 ≤ c) × (c ≤ 57) ⌝ }
+    ensures { λ r. ⌜ r ≡ 10 * v + (c - 48) ⌝ }
+{
+    10 * v + ((c - 48) as u32)
+}
+
+// A count, a time or a kind: 1 to 7 digits.
+pub fn decimal(s: &[u8]) -> Number
+    ensures { λ r. ⌜ (counted r ≡ countOf (now (s .entry))) × Few r ⌝ }
+{
+    if s.len() < 1 {
+        return Number::Not;
+    }
+    if s.len() > 7 {
+        return Number::Not;
+    }
+    let mut v: u32 = 0;
+    let mut i = 0;
+    while i < s.len() {
+        let c = s[i];
+        if !is_digit(c) {
+            return Number::Not;
+        }
+        v = with_digit(v, c);
+        i += 1;
+    }
+    Number::Is(v)
+}
+
+// How many digits a line begins with.
+fn digits_in(s: &[u8]) -> usize
+    ensures { λ r. ⌜ (r ≡ digitsIn (now (s .entry))) × (r ≤ length (now (s .entry))) ⌝ }
+{
+    let mut i = 0;
+    while i < s.len() {
+        if !is_digit(s[i]) {
+            return i;
+        }
+        i += 1;
+    }
+    i
+}
+
+// A space and two hex digits.
+fn is_octet(s: u8, a: u8, b: u8) -> bool
+    ensures { λ r. ⌜ r ≡ isOctet s a b ⌝ }
+{
+    if s != b' ' {
+        return false;
+    }
+    if is_hex(a) { is_hex(b) } else { false }
+}
+
+fn are_octets(s: &[u8]) -> bool
+    ensures { λ r. ⌜ r ≡ areOctets (now (s .entry)) ⌝ }
+{
+    let mut i = 0;
+    while i < s.len() {
+        if s.len() - i < 3 {
+            return false;
+        }
+        if !is_octet(s[i], s[i + 1], s[i + 2]) {
+            return false;
+        }
+        i += 3;
+    }
+    true
+}
+
+// The octets, to the beginning of those lent. All are looked at before, so that a line out of form writes nothing.
+fn put_octets(s: &[u8], octets: &mut [u8]) -> usize
+    requires { ⌜ (areOctets (now s) ≡ true) × (length (now s) ≤ 3 * length (now octets)) ⌝ }
+    ensures { λ r. ⌜ (r ≡ length (octetsIn (now (s .entry)))) × (now (octets .exit) ≡ sets (now (octets .entry)) 0 (octetsIn (now (s .entry)))) ⌝ }
+{
+    let mut n = 0;
+    let mut i = 0;
+    while i < s.len() {
+        octets[n] = octet_at(s, i + 1);
+        n += 1;
+        i += 3;
+    }
+    n
+}
+
+// What follows `t `.
+fn time(s: &[u8]) -> Line
+    ensures { λ r. ⌜ r ≡ lineOf (timed (countOf (now (s .entry)))) ⌝ }
+{
+    match decimal(s) {
+        Number::Is(t) => Line::Time(t),
+        Number::Not => Line::Bad,
+    }
+}
+
+// What follows `p `: the kind, and its octets.
+fn packet(s: &[u8], octets: &mut [u8]) -> Line
+    requires { ⌜ (length (now s) ≤ 253) × (84 ≤ length (now octets)) ⌝ }
+    ensures { λ r. ⌜ Parses (packetOf (now (s .entry))) (now (octets .entry)) r (now (octets .exit)) ⌝ }
+{
+    let n = digits_in(s);
+    match decimal(&s[..n]) {
+        Number::Is(kind) => {
+            let rest = &s[n..];
+            if are_octets(rest) {
+                let count = put_octets(rest, octets);
+                return Line::Packet { kind, count };
+            }
+            Line::Bad
+        }
+        Number::Not => Line::Bad,
+    }
+}
+
+// A line of the events. 255 characters hold at most 84 octets.
+pub fn parse_event(line: &[u8], octets: &mut [u8; 84]) -> Line
+    ensures { λ r. ⌜ Parses (eventOf (now (line .entry))) (now (octets .entry)) r (now (octets .exit)) ⌝ }
+{
+    if line.len() > 255 {
+        return Line::Bad;
+    }
+    if fits(b"w ## ##", line) {
+        return Line::Write(octet_at(line, 2), octet_at(line, 5));
+    }
+    if fits(b"r ##", line) {
+        return Line::Read(octet_at(line, 2));
+    }
+    if fits(b"h", line) {
+        return Line::HardReset;
+    }
+    if line.len() < 2 {
+        return Line::Bad;
+    }
+    let head = &line[..2];
+    if fits(b"t ", head) {
+        return time(&line[2..]);
+    }
+    if fits(b"p ", head) {
+        return packet(&line[2..], octets);
+    }
+    Line::Bad
+}
+
+// A line of the setup, `aa vv`.
+pub fn parse_setup(line: &[u8]) -> Line
+    ensures { λ r. ⌜ r ≡ lineOf (setupOf (now (line .entry))) ⌝ }
+{
+    if fits(b"## ##", line) {
+        return Line::Write(octet_at(line, 0), octet_at(line, 3));
+    }
+    Line::Bad
+}

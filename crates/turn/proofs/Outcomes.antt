@@ -1,0 +1,31 @@
+-- A line is taken in one way.
+-- Assumes nothing.
+use mathlib.Core.Path.{_≡_, sym, ap, _∙_}
+use mathlib.Core.Bool.{true, false}
+use Rattle.fusb302.specs.View.{view}
+use Rattle.turn.specs.declared.Turned.{Turned}
+use Rattle.turn.specs.Turn.{Lent, Takes}
+use Rattle.turn.specs.Theorems.{OneTurn}
+
+pub one-turn : OneTurn
+unfolding Takes
+one-turn true d e number before at r s a b p q =
+    record {
+      state = p .state ∙ sym (q .state);
+      ends = p .ends ∙ sym (q .ends);
+      at = p .prints .next ∙ sym (q .prints .next);
+      out = p .prints .stands ∙ sym (q .prints .stands);
+      octets = p .octets ∙ sym (q .octets);
+      symbols = p .symbols ∙ sym (q .symbols);
+    }
+one-turn false d e number before at r s a b p q =
+    let same : r ≡ s = p .0 ∙ sym (q .0) in
+    let kept : a ≡ b = p .1 ∙ sym (q .1) in
+    record {
+      state = ap (λ (x : Turned). view (x .device)) same;
+      ends = ap (λ (x : Turned). x .ends) same;
+      at = ap (λ (x : Turned). x .at) same;
+      out = ap (λ (x : Lent). x .out) kept;
+      octets = ap (λ (x : Lent). x .octets) kept;
+      symbols = ap (λ (x : Lent). x .symbols) kept;
+    }

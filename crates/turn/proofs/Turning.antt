@@ -1,0 +1,324 @@
+-- A parsed line is the event that its text means; the device serves it, and what it prints is the machine's.
+-- Assumes nothing.
+use mathlib.Core.Path.{_≡_, refl, sym, ap, ap₂, _∙_, subst}
+use mathlib.Core.Bool.{Bool, true, false, not, cond, _&&_, true≢false}
+use mathlib.Core.List.{List, [], _∷_, _++_}
+use mathlib.Core.Option.{Option, none, some}
+use Prim.Native.Nat.{ℕ, _+_, _-_, _*_, _<_, _≤_}
+use native.Mathlib.Omega.{arith}
+use borrow.Author.Tests.{le-leb, lt-leb, leb-true}
+use lib.Dec.{leb}
+use lib.ListN.{length, take, drop, length-append, length-drop}
+use lib.Seq.{take-at, length-take-le}
+use Rattle.line.specs.Frame.{joined}
+use Rattle.line.specs.Write.{frameRoom}
+use Rattle.machine.specs.Status.{intLow}
+use Rattle.machine.specs.State.{State}
+use Rattle.machine.specs.Events.{Event, write, read, pass, hardReset, packet, Reply, room}
+use Rattle.machine.specs.Step.{step}
+use Rattle.fusb302.specs.declared.device.Device.{Device}
+use Rattle.fusb302.specs.declared.device.Reply.the-variants.{Done}
+use Rattle.fusb302.specs.declared.device.Outcome.{Outcome}
+use Rattle.fusb302.specs.View.{view, Asks}
+use Rattle.fusb302.specs.Serves.{replied, over, Serves}
+use Rattle.script.specs.declared.parse.Line.{Line}
+use Rattle.script.specs.declared.parse.Line.the-variants.{Write, Read, Time, HardReset, Packet, Bad}
+use Rattle.script.specs.Ascii.{text}
+use Rattle.script.specs.Text.{fits, octetAt, areOctets, octetsIn}
+use Rattle.script.specs.Parse.{countOf, written, timed, octetPart, kindPart, heard, packetOf, formOf, eventOf, setupOf, lineOf, octetsOf, Parses}
+use Rattle.script.specs.Print.{hexOf, decimalOf, replyText, spaced, symbolsText, outcomeText, badText, lineRoom, hasRoom, Puts, Prints}
+use Rattle.script.proofs.Texts.{few, short}
+use Rattle.turn.specs.declared.Turned.{Turned}
+use Rattle.turn.specs.Turn.{meantBy, missing, leftBy, sentBy, shown, textOf, Turns, Takes, Lent, eventFor, heardOf, isBad, Steps, Acts}
+
+-- ---- a line's event is lent room for one frame
+
+abbrev Roomy : Option Event → Type 0
+Roomy none = Unit {0}
+Roomy (some e) = room e ≡ frameRoom
+
+either : (b : Bool) (x y : Option Event) → Roomy x → Roomy y → Roomy (cond b x y)
+either true x y p q = p
+either false x y p q = q
+
+timed-roomy : (o : Option ℕ) → Roomy (timed o)
+timed-roomy none = tt
+timed-roomy (some n) = refl
+
+heard-roomy : (o : Option ℕ) (b : Bool) (m : List ℕ) → Roomy (heard o b m)
+heard-roomy none b m = tt
+heard-roomy (some k) true m = refl
+heard-roomy (some k) false m = tt
+
+packet-roomy : (l : List ℕ) → Roomy (packetOf l)
+unfolding packetOf
+packet-roomy l = heard-roomy (countOf (kindPart l)) (areOctets (octetPart l)) (octetsIn (octetPart l))
+
+form-roomy : (l : List ℕ) → Roomy (formOf l)
+unfolding formOf
+form-roomy l =
+    either (fits (text "w ## ##") l) _ _ refl
+    (either (fits (text "r ##") l) _ _ refl
+    (either (fits (text "h") l) _ _ refl
+    (either (fits (text "t ") (take 2 l)) _ _ (timed-roomy (countOf (drop 2 l)))
+    (either (fits (text "p ") (take 2 l)) _ _ (packet-roomy (drop 2 l)) tt))))
+
+event-roomy : (l : List ℕ) → Roomy (eventOf l)
+unfolding eventOf
+event-roomy l = either (leb (length l) 255) _ _ (form-roomy l) tt
+
+setup-roomy : (l : List ℕ) → Roomy (setupOf l)
+unfolding setupOf
+setup-roomy l = either (fits (text "## ##") l) _ _ refl tt
+
+pub meant-roomy : (setup : Bool) (l : List ℕ) → Roomy (meantBy setup l)
+meant-roomy setup l = either setup (setupOf l) (eventOf l) (setup-roomy l) (event-roomy l)
+
+-- ---- a parsed line and the octets beside it are the event
+
+back : (e : Option Event) → Roomy e → (before : List ℕ) (r : Line) (after : List ℕ) → Parses e before r after
+    → (eventFor r after ≡ e) × (heardOf r ≤ length after)
+back none roomy before r after p = (rw (p .says) refl, rw (p .says) (omega arith))
+back (some (write n a v)) roomy before r after p = (rw (p .says) (ap (λ (x : ℕ). some (write x a v)) (sym roomy)), rw (p .says) (omega arith))
+back (some (read n a)) roomy before r after p = (rw (p .says) (ap (λ (x : ℕ). some (read x a)) (sym roomy)), rw (p .says) (omega arith))
+back (some (pass n t)) roomy before r after p = (rw (p .says) (ap (λ (x : ℕ). some (pass x t)) (sym roomy)), rw (p .says) (omega arith))
+back (some (hardReset n)) roomy before r after p = (rw (p .says) (ap (λ (x : ℕ). some (hardReset x)) (sym roomy)), rw (p .says) (omega arith))
+back (some (packet n k m)) roomy before r after p = (
+  rw (p .says, p .leaves)
+      (ap₂ (λ (x : ℕ) (l : List ℕ). some (packet x k l)) (sym roomy) (take-at m (drop (length m) before) (length m) refl)),
+  rw (p .says, p .leaves) (simp length-append (omega arith)),
+)
+
+module _ (setup : Bool) (l before : List ℕ) (r : Line) (after : List ℕ) (p : Parses (meantBy setup l) before r after) where
+  pub parsed-event : eventFor r after ≡ meantBy setup l
+  parsed-event = back (meantBy setup l) (meant-roomy setup l) before r after p .0
+
+  pub parsed-heard : heardOf r ≤ length after
+  parsed-heard = back (meantBy setup l) (meant-roomy setup l) before r after p .1
+
+pub setup-parses : (l before : List ℕ) (r : Line) → r ≡ lineOf (setupOf l) → Parses (setupOf l) before r before
+unfolding setupOf
+setup-parses l before r e = go (fits (text "## ##") l) e
+  where
+    go : (b : Bool) → r ≡ lineOf (cond b (some (written (octetAt 0 l) (octetAt 3 l))) none)
+        → Parses (cond b (some (written (octetAt 0 l) (octetAt 3 l))) none) before r before
+    go true e = record { says = e; leaves = refl }
+    go false e = record { says = e; leaves = refl }
+
+-- ---- the device serves it
+
+module _ (d : Device) (line : Line) (os before : List ℕ) (long : length before ≡ 73) (r : Outcome) (after : List ℕ) where
+  as-is : (f : Line) → line ≡ f → Steps (eventFor f os) d before r after → Steps (eventFor line os) d before r after
+  as-is f e h = subst (λ (x : Line). Steps (eventFor x os) d before r after) (sym e) h
+
+  lent : (f : ℕ → Event) → Serves (f (length before)) d before r after → Serves (f 73) d before r after
+  lent f h = subst (λ (n : ℕ). Serves (f n) d before r after) long h
+
+  pub serves-write : (a v : ℕ) → line ≡ Write a v → Serves (write (length before) a v) d before r after → Steps (eventFor line os) d before r after
+  serves-write a v e h = as-is (Write a v) e (lent (λ n. write n a v) h)
+
+  pub serves-read : (a : ℕ) → line ≡ Read a → Serves (read (length before) a) d before r after → Steps (eventFor line os) d before r after
+  serves-read a e h = as-is (Read a) e (lent (λ n. read n a) h)
+
+  pub serves-pass : (t : ℕ) → line ≡ Time t → Serves (pass (length before) t) d before r after → Steps (eventFor line os) d before r after
+  serves-pass t e h = as-is (Time t) e (lent (λ n. pass n t) h)
+
+  pub serves-reset : line ≡ HardReset → Serves (hardReset (length before)) d before r after → Steps (eventFor line os) d before r after
+  serves-reset e h = as-is HardReset e (lent (λ n. hardReset n) h)
+
+  pub serves-packet : (k n : ℕ) → line ≡ Packet k n → Serves (packet (length before) k (take n os)) d before r after
+      → Steps (eventFor line os) d before r after
+  serves-packet k n e h = as-is (Packet k n) e (lent (λ x. packet x k (take n os)) h)
+
+pub serves-none : (d : Device) (line : Line) (os before : List ℕ) → line ≡ Bad
+    → Steps (eventFor line os) d before (record { device = d; reply = Done; count = 0 }) before
+serves-none d line os before e =
+    subst (λ (x : Line). Steps (eventFor x os) d before (record { device = d; reply = Done; count = 0 }) before) (sym e) (refl, refl)
+
+pub heard-within : (line : Line) (k n : ℕ) (os : List ℕ) → line ≡ Packet k n → heardOf line ≤ length os → n ≤ length os
+heard-within line k n os e h = rw e at h
+
+-- ---- what it prints
+
+missing-is : (line : Line) (os : List ℕ) → missing (eventFor line os) ≡ isBad line
+missing-is (Write a v) os = refl
+missing-is (Read a) os = refl
+missing-is (Time t) os = refl
+missing-is HardReset os = refl
+missing-is (Packet k n) os = refl
+missing-is Bad os = refl
+
+-- an array stays as long as it was, so frames fit in it
+sent-fits : (f before after : List ℕ) → after ≡ over f before → length after ≡ length before → length f ≤ length before
+sent-fits f before after e long =
+    let n = length-append f (drop (length f) before) in
+    let m = ap length e in
+    omega arith
+
+module _ (d : Device) (e : Event) (before : List ℕ) (r : Outcome) (after : List ℕ) (serves : Serves e d before r after) where
+  sent : take (r .count) after ≡ joined (step (view d) e .frames)
+  sent = ap (take (r .count)) (serves .lent) ∙ take-at (joined (step (view d) e .frames)) _ (r .count) (sym (serves .count))
+
+  pub counts : length after ≡ length before → r .count ≤ length before
+  counts long = let m = sent-fits (joined (step (view d) e .frames)) before after (serves .lent) long in let n = serves .count in omega arith
+
+module _ (line : Line) (os : List ℕ) (d : Device) (before : List ℕ) (r : Outcome) (after : List ℕ) where
+  pub steps-ask : Asks d → Steps (eventFor line os) d before r after → Asks (r .device)
+  steps-ask asks = go (eventFor line os)
+    where
+      go : (x : Option Event) → Steps x d before r after → Asks (r .device)
+      go none h = rw (h .0) asks
+      go (some e) h = h .asks
+
+  pub steps-count : length after ≡ length before → Steps (eventFor line os) d before r after → r .count ≤ length after
+  steps-count long = go (eventFor line os)
+    where
+      go : (x : Option Event) → Steps x d before r after → r .count ≤ length after
+      go none h = rw (h .0) (omega arith)
+      go (some e) h = let n = counts d e before r after h long in omega arith
+
+-- ---- any line of text has room
+
+spaced-length : (l : List ℕ) → length (spaced l) ≡ 3 * length l
+unfolding spaced hexOf
+spaced-length [] = refl
+spaced-length (s ∷ l) = let e = spaced-length l in omega arith
+
+symbols-few : (l : List ℕ) → length l ≤ frameRoom → length (symbolsText l) ≤ 219
+unfolding symbolsText
+symbols-few [] h = omega arith
+symbols-few (s ∷ l) h = let e = spaced-length (s ∷ l) in omega arith
+
+outcome-few : (r : Reply) (high : Bool) (l : List ℕ) → length l ≤ frameRoom → length (outcomeText r high l) ≤ lineRoom
+unfolding outcomeText
+outcome-few r high l h =
+    let a = short r in
+    let b = symbols-few l h in
+    simp length-append (omega arith)
+
+bad-few : (n : ℕ) → length (badText n) ≤ lineRoom
+unfolding badText
+bad-few n = let a = few 8 n in simp length-append (omega arith)
+
+-- ---- a parsed line whole
+
+module _ (d : Device) (line : Line) (number : ℕ) (os symbols out : List ℕ) (at : ℕ) (roomy : hasRoom out at ≡ true) (end : ℕ) (out′ : List ℕ) where
+  behind : at + lineRoom ≤ length out
+  behind = leb-true (at + lineRoom) (length out) roomy
+
+  pub acts-bad : Asks d → isBad line ≡ true → Prints (hasRoom out at) out at (badText number) end out′
+      → Acts d (eventFor line os) number symbols out at (record { device = d; ends = true; at = end }) symbols out′
+  unfolding Prints textOf leftBy sentBy joined
+  acts-bad asks bad p = go (eventFor line os) (missing-is line os ∙ bad)
+    where
+      printed : Puts out at (badText number) end out′
+      printed = subst (λ (b : Bool). Prints b out at (badText number) end out′) roomy p
+
+      go : (o : Option Event) → missing o ≡ true → Acts d o number symbols out at (record { device = d; ends = true; at = end }) symbols out′
+      go (some e) m = absurd (true≢false (sym m))
+      go none m =
+          record {
+            ends = refl;
+            state = refl;
+            asks = asks;
+            prints = printed;
+            fits = let n = printed .next in let b = bad-few number in let h = behind in omega arith;
+            symbols = refl;
+          }
+
+  module _ (symbols′ : List ℕ) (o : Outcome) (lent : length symbols ≡ 73) (kept : length symbols′ ≡ 73) (high : Bool) (level : high ≡ not (intLow (view (o .device)))) where
+    pub acts-done : isBad line ≡ false → Steps (eventFor line os) d symbols o symbols′
+        → Prints (leb (length (take (o .count) symbols′)) frameRoom && hasRoom out at) out at (outcomeText (replied (o .reply)) high (take (o .count) symbols′)) end out′
+        → Acts d (eventFor line os) number symbols out at (record { device = o .device; ends = false; at = end }) symbols′ out′
+    unfolding Prints textOf leftBy sentBy shown
+    acts-done good steps p = go (eventFor line os) (missing-is line os ∙ good) steps
+      where
+        go : (x : Option Event) → missing x ≡ false → Steps x d symbols o symbols′
+            → Acts d x number symbols out at (record { device = o .device; ends = false; at = end }) symbols′ out′
+        go none m h = absurd (true≢false m)
+        go (some e) m h =
+            let few = counts d e symbols o symbols′ h (kept ∙ sym lent) in
+            let long = length-take-le (o .count) symbols′ (omega arith) in
+            let fine = le-leb (length (take (o .count) symbols′)) frameRoom (omega arith) in
+            let printed : Puts out at (outcomeText (replied (o .reply)) high (take (o .count) symbols′)) end out′ =
+            subst (λ (b : Bool). Prints b out at (outcomeText (replied (o .reply)) high (take (o .count) symbols′)) end out′)
+            (ap₂ (λ (a b : Bool). a && b) fine roomy) p in
+            record {
+              ends = refl;
+              state = h .state;
+              asks = h .asks;
+              prints = subst (λ (t : List ℕ). Puts out at t end out′) (text-is e h) printed;
+              fits =
+                  let n = printed .next in
+                  let b = outcome-few (replied (o .reply)) high (take (o .count) symbols′) (omega arith) in
+                  let r = behind in
+                  omega arith;
+              symbols = h .lent;
+            }
+          where
+            text-is : (e : Event) (h : Serves e d symbols o symbols′)
+                → outcomeText (replied (o .reply)) high (take (o .count) symbols′)
+                ≡ outcomeText (step (view d) e .reply) (not (intLow (step (view d) e .state))) (joined (step (view d) e .frames))
+            text-is e h =
+                ap₂ (λ (r : Reply) (b : Bool). outcomeText r b (take (o .count) symbols′)) (h .reply) (level ∙ ap (λ (s : State). not (intLow s)) (h .state))
+                ∙ ap (outcomeText (step (view d) e .reply) (not (intLow (step (view d) e .state)))) (sent d e symbols o symbols′ h)
+
+-- ---- the whole line
+
+pub takes-none : (d : Device) (e : Option Event) (number : ℕ) (before : Lent) (at : ℕ) → hasRoom (before .out) at ≡ false
+    → Takes (hasRoom (before .out) at) d e number before at (record { device = d; ends = true; at = at }) before
+unfolding Takes
+takes-none d e number before at h = rw h (refl, refl)
+
+pub small-none : (out : List ℕ) (at : ℕ) → length out < lineRoom → hasRoom out at ≡ false
+small-none out at h = lt-leb (at + lineRoom) (length out) (omega arith)
+
+pub late-none : (out : List ℕ) (at : ℕ) → length out - lineRoom < at → hasRoom out at ≡ false
+late-none out at h = lt-leb (at + lineRoom) (length out) (omega arith)
+
+pub has-room : (out : List ℕ) (at : ℕ) → lineRoom ≤ length out → at ≤ length out - lineRoom → hasRoom out at ≡ true
+has-room out at p q = le-leb (at + lineRoom) (length out) (omega arith)
+
+pub takes-line : (d : Device) (setup : Bool) (l : List ℕ) (number : ℕ) (out octets symbols : List ℕ) (at : ℕ) → hasRoom out at ≡ true
+    → (meant : Line) (octets′ : List ℕ) → Parses (meantBy setup l) octets meant octets′ → (r : Turned) (symbols′ out′ : List ℕ)
+    → Acts d (eventFor meant octets′) number symbols out at r symbols′ out′
+    → Takes (hasRoom out at) d (meantBy setup l) number (record { out = out; octets = octets; symbols = symbols }) at r
+    (record { out = out′; octets = octets′; symbols = symbols′ })
+unfolding Takes
+takes-line d setup l number out octets symbols at roomy meant octets′ p r symbols′ out′ x =
+    let h = subst (λ (e : Option Event). Acts d e number symbols out at r symbols′ out′) (parsed-event setup l octets meant octets′ p) x in
+    rw roomy
+    (record {
+      ends = h .ends;
+      state = h .state;
+      asks = h .asks;
+      prints = h .prints;
+      fits = h .fits;
+      octets = p .leaves;
+      symbols = h .symbols;
+    })
+
+-- ---- what was printed lies in what was lent
+
+pub bad-within : (out : List ℕ) (at n r : ℕ) (out′ : List ℕ) → at ≤ length out → Prints (hasRoom out at) out at (badText n) r out′ → r ≤ length out
+unfolding Prints
+bad-within out at n r out′ h = go (hasRoom out at) refl
+  where
+    go : (b : Bool) → hasRoom out at ≡ b → Prints b out at (badText n) r out′ → r ≤ length out
+    go true e p =
+        let k = leb-true (at + lineRoom) (length out) e in
+        let m = p .next in
+        let f = bad-few n in
+        omega arith
+    go false e p = let m = p .0 in omega arith
+
+module _ (d : Device) (e : Option Event) (number : ℕ) (before : Lent) (at : ℕ) (r : Turned) (after : Lent) where
+  pub turn-asks : (b : Bool) → Asks d → Takes b d e number before at r after → Asks (r .device)
+  unfolding Takes
+  turn-asks true asks h = h .asks
+  turn-asks false asks h = rw (h .0) asks
+
+  pub turn-within : (b : Bool) → at ≤ length (before .out) → Takes b d e number before at r after → r .at ≤ length (before .out)
+  unfolding Takes
+  turn-within true h t = t .fits
+  turn-within false h t = rw (t .0) h

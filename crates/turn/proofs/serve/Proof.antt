@@ -1,0 +1,104 @@
+-- Each kind of line calls the method of its event.
+use borrow.Author.Needs.{needs}
+use mathlib.Core.Path.{sym}
+use lib.Seq.{length-take-le}
+use Rattle.turn.proofs.Turning.{heard-within, serves-write, serves-read, serves-pass, serves-reset, serves-packet, serves-none}
+use Rattle.turn.proofs.serve.Statement.{statement}
+use Rattle.turn.proofs.serve.Tie as tie
+
+enum-known-line : tie.Need-enum-known-line
+enum-known-line c = search needs
+
+write-requires : tie.Need-write-requires
+write-requires c κs = search needs
+
+enum-known-line-2 : tie.Need-enum-known-line-2
+enum-known-line-2 c = search needs
+
+read-requires : tie.Need-read-requires
+read-requires c κs = search needs
+
+enum-known-line-3 : tie.Need-enum-known-line-3
+enum-known-line-3 c = search needs
+
+pass-requires : tie.Need-pass-requires
+pass-requires c κs = search needs
+
+enum-told : tie.Need-enum-told
+enum-told c = search needs
+
+hear-hard-reset-requires : tie.Need-hear-hard-reset-requires
+hear-hard-reset-requires c κs = search needs
+
+enum-known-line-4 : tie.Need-enum-known-line-4
+enum-known-line-4 c = search needs
+
+slice-aggregate-hear-packet : tie.Need-slice-aggregate-hear-packet
+slice-aggregate-hear-packet c = sym (length-take-le _ (c .before .before .before .before .before .before .args .octets .now) (heard-within (c .before .before .before .before .before .before .args .line) _ _ (c .before .before .before .before .before .before .args .octets .now) (c .before .before .line4 .given .1) (c .before .before .before .before .before .before .pre .1)))
+
+hear-packet-requires : tie.Need-hear-packet-requires
+hear-packet-requires c κs = search needs
+
+enum-told-2 : tie.Need-enum-told-2
+enum-told-2 c = search needs
+
+same-length : tie.Need-same-length
+same-length c = search needs
+
+returns : tie.Need-returns
+returns c = serves-write (c .before .before .before .before .before .before .before .before .before .args .device) (c .before .before .before .before .before .before .before .before .before .args .line) (c .before .before .before .before .before .before .before .before .before .args .octets .now) (c .before .before .before .before .before .before .before .before .before .args .symbols .now) (c .before .before .before .before .before .before .before .before .before .pre .2) _ _ _ _ (c .before .before .before .before .before .line .given .1) (c .before .before .write .ensures)
+
+same-length-2 : tie.Need-same-length-2
+same-length-2 c = search needs
+
+returns-2 : tie.Need-returns-2
+returns-2 c = serves-read (c .before .before .before .before .before .before .before .before .before .args .device) (c .before .before .before .before .before .before .before .before .before .args .line) (c .before .before .before .before .before .before .before .before .before .args .octets .now) (c .before .before .before .before .before .before .before .before .before .args .symbols .now) (c .before .before .before .before .before .before .before .before .before .pre .2) _ _ _ (c .before .before .before .before .before .line2 .given .1) (c .before .before .read .ensures)
+
+same-length-3 : tie.Need-same-length-3
+same-length-3 c = search needs
+
+returns-3 : tie.Need-returns-3
+returns-3 c = serves-pass (c .before .before .before .before .before .before .before .before .before .args .device) (c .before .before .before .before .before .before .before .before .before .args .line) (c .before .before .before .before .before .before .before .before .before .args .octets .now) (c .before .before .before .before .before .before .before .before .before .args .symbols .now) (c .before .before .before .before .before .before .before .before .before .pre .2) _ _ _ (c .before .before .before .before .before .line3 .given .1) (c .before .before .pass .ensures)
+
+same-length-4 : tie.Need-same-length-4
+same-length-4 c = search needs
+
+returns-4 : tie.Need-returns-4
+returns-4 c = serves-reset (c .before .before .before .before .before .before .before .before .args .device) (c .before .before .before .before .before .before .before .before .args .line) (c .before .before .before .before .before .before .before .before .args .octets .now) (c .before .before .before .before .before .before .before .before .args .symbols .now) (c .before .before .before .before .before .before .before .before .pre .2) _ _ (c .before .before .before .before .enum-told .given .1) (c .before .before .hear-hard-reset .ensures)
+
+same-length-5 : tie.Need-same-length-5
+same-length-5 c = search needs
+
+returns-5 : tie.Need-returns-5
+returns-5 c = serves-packet (c .before .before .before .before .before .before .before .before .before .before .args .device) (c .before .before .before .before .before .before .before .before .before .before .args .line) (c .before .before .before .before .before .before .before .before .before .before .args .octets .now) (c .before .before .before .before .before .before .before .before .before .before .args .symbols .now) (c .before .before .before .before .before .before .before .before .before .before .pre .2) _ _ _ _ (c .before .before .before .before .before .before .line4 .given .1) (c .before .before .hear-packet .ensures)
+
+returns-6 : tie.Need-returns-6
+returns-6 c = serves-none (c .before .before .before .before .args .device) (c .before .before .before .before .args .line) (c .before .before .before .before .args .octets .now) (c .before .before .before .before .args .symbols .now) (c .enum-told2 .given .1)
+
+pub serve-spec : {M : Type 1} → statement M
+serve-spec =
+    tie.close
+    (tie.spec
+    enum-known-line
+    write-requires
+    enum-known-line-2
+    read-requires
+    enum-known-line-3
+    pass-requires
+    enum-told
+    hear-hard-reset-requires
+    enum-known-line-4
+    slice-aggregate-hear-packet
+    hear-packet-requires
+    enum-told-2
+    same-length
+    returns
+    same-length-2
+    returns-2
+    same-length-3
+    returns-3
+    same-length-4
+    returns-4
+    same-length-5
+    returns-5
+    returns-6)

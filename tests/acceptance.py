@@ -1,0 +1,66 @@
+#!/usr/bin/env python3
+"""The acceptance files: programs with the bench's standard input and output against answers worked out from 01 by hand.
+
+    tests/acceptance.py PROGRAM [PROGRAM..]
+
+Each tests/cases/NAME.in is run and what is printed compared with NAME.out, to the last character. A name says its rule.
+"""
+import os
+import subprocess
+import sys
+
+CASES = os.path.join(os.path.dirname(os.path.abspath(__file__)), 'cases')
+SECONDS = 20
+
+
+def contents(path):
+    with open(path, 'rb') as file:
+        return file.read()
+
+
+def cases():
+    """Every case by its name: input and expected output."""
+    names = {}
+    for file in sorted(os.listdir(CASES)):
+        name, kind = os.path.splitext(file)
+        if kind in ('.in', '.out'):
+            names.setdefault(name, set()).add(kind)
+    lonely = [name for name, kinds in names.items() if len(kinds) != 2]
+    if lonely or not names:
+        sys.exit('acceptance: %s' % ('only one of .in and .out: ' + ', '.join(lonely) if lonely else 'no cases'))
+    return {name: [contents(os.path.join(CASES, name + kind)) for kind in ('.in', '.out')] for name in names}
+
+
+def wrong(program, text, expected):
+    """How the program's answer differs from what is expected, or None."""
+    try:
+        run = subprocess.run([program], input=text, capture_output=True, timeout=SECONDS)
+    except subprocess.TimeoutExpired:
+        return 'does not end within %d seconds' % SECONDS
+    if run.returncode < 0:
+        return 'ended by signal %d' % -run.returncode
+    if run.stdout == expected:
+        return None
+    given, due = run.stdout.split(b'\n'), expected.split(b'\n')
+    at = next((n for n, (one, other) in enumerate(zip(given, due)) if one != other), min(len(given), len(due)))
+    return 'output line %d is %s, expected %s' % (at + 1, *(lines[at] if at < len(lines) else 'missing' for lines in (given, due)))
+
+
+def main():
+    programs = sys.argv[1:]
+    if not programs:
+        sys.exit(__doc__)
+    every, failed = cases(), 0
+    for program in programs:
+        for name, (text, expected) in every.items():
+            found = wrong(program, text, expected)
+            if found:
+                failed += 1
+                print('acceptance: %s: %s: %s' % (program, name, found))
+    ran = len(every) * len(programs)
+    print('acceptance: %d of %d passed (%d cases, %d program%s)' % (
+        ran - failed, ran, len(every), len(programs), 's' * (len(programs) > 1)))
+    sys.exit(failed > 0)
+
+
+main()
