@@ -860,7 +860,9 @@ impl Device {
             return self.port_written(value, symbols);
         }
         let at = (address - 2) as usize;
-        self.cells[at] = value & stored_bits(address);
+        let mut cells = self.cells;
+        cells[at] = value & stored_bits(address);
+        self.cells = cells;
         match address {
             0x06 => self.control0_written(value, symbols),
             0x07 => self.control1_written(value),

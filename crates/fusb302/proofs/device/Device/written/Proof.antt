@@ -13,7 +13,7 @@ same-length : tie.Need-same-length
 same-length c = search needs
 
 returns : tie.Need-returns
-returns c = written-port (c .before .before .before .before .before .before .args .t1) _ _ _ _ _ (c .before .before .before .before .if1 .taken) (c .before .before .port-written .ensures)
+returns c = written-port (c .before .before .before .before .before .before .args .self) _ _ _ _ _ (c .before .before .before .before .if1 .taken) (c .before .before .port-written .ensures)
 
 sub-at : tie.Need-sub-at
 sub-at c = taken-stored _ _ _ (c .before .before .pre .1) (c .if1 .left) .0
@@ -22,14 +22,14 @@ cast-at : tie.Need-cast-at
 cast-at c = search needs
 
 stored-bits-requires : tie.Need-stored-bits-requires
-stored-bits-requires c κs = let h = taken-stored _ _ _ (c .before .before .pre .1) (c .if1 .left) in (h .0, h .1)
+stored-bits-requires c κs = let h = taken-stored _ _ _ (c .before .before .before .pre .1) (c .before .if1 .left) in (h .0, h .1)
 
-element-write-self : tie.Need-element-write-self
-element-write-self c = let h = taken-stored _ _ _ (c .before .before .before .pre .1) (c .before .if1 .left) in omega arith
+array-write-cells : tie.Need-array-write-cells
+array-write-cells c = let h = taken-stored _ _ _ (c .before .before .before .before .pre .1) (c .before .before .if1 .left) in omega arith
 
 control0-written-requires : tie.Need-control0-written-requires
 control0-written-requires c κs =
-    (stored-arranged _ (c .before .before .before .before .before .pre .0 .arranged) _ _, c .before .before .before .before .before .pre .0 .good .tx, no-flush (c .before .before .before .before .before .args .t1) _ (rw (c .before .match .keys1) at (c .before .before .before .before .before .pre .1)), c .before .before .before .before .before .pre .2)
+    (stored-arranged _ (c .before .before .before .before .before .before .pre .0 .arranged) _ _, c .before .before .before .before .before .before .pre .0 .good .tx, no-flush (c .before .before .before .before .before .before .args .self) _ (rw (c .before .match .keys1) at (c .before .before .before .before .before .before .pre .1)), c .before .before .before .before .before .before .pre .2)
 
 control1-written-requires : tie.Need-control1-written-requires
 control1-written-requires c κs = search needs
@@ -48,29 +48,29 @@ same-length-2 c = search needs
 
 returns-2 : tie.Need-returns-2
 returns-2 c =
-    written-by (c .before .before .before .before .before .before .before .before .args .t1) _ _ _ _ _ _ (c .before .before .before .before .before .stored-bits .ensures) (c .before .before .before .before .before .before .if1 .left) _ (is-control0 _ _ _ (c .before .before .before .before .match .keys1)) (c .before .before .control0-written .ensures)
+    written-by (c .before .before .before .before .before .before .before .before .before .args .self) _ _ _ _ _ _ (c .before .before .before .before .before .stored-bits .ensures) (c .before .before .before .before .before .before .before .if1 .left) _ (is-control0 _ _ _ (c .before .before .before .before .match .keys1)) (c .before .before .control0-written .ensures)
 
 returns-3 : tie.Need-returns-3
 returns-3 c =
-    written-by (c .before .before .before .before .before .args .t1) _ _ _ _ _ _ (c .before .before .stored-bits .ensures) (c .before .before .before .if1 .left) _ (is-control1 _ _ _ (c .before .match .keys2)) (quiet-does _ _ (c .control1-written .ensures) _)
+    written-by (c .before .before .before .before .before .before .args .self) _ _ _ _ _ _ (c .before .before .stored-bits .ensures) (c .before .before .before .before .if1 .left) _ (is-control1 _ _ _ (c .before .match .keys2)) (quiet-does _ _ (c .control1-written .ensures) _)
 
 same-length-3 : tie.Need-same-length-3
 same-length-3 c = search needs
 
 returns-4 : tie.Need-returns-4
 returns-4 c =
-    written-by (c .before .before .before .before .before .before .before .before .args .t1) _ _ _ _ _ _ (c .before .before .before .before .before .stored-bits .ensures) (c .before .before .before .before .before .before .if1 .left) _ (is-control3 _ _ _ (c .before .before .before .before .match .keys3)) (c .before .before .control3-written .ensures)
+    written-by (c .before .before .before .before .before .before .before .before .before .args .self) _ _ _ _ _ _ (c .before .before .before .before .before .stored-bits .ensures) (c .before .before .before .before .before .before .before .if1 .left) _ (is-control3 _ _ _ (c .before .before .before .before .match .keys3)) (c .before .before .control3-written .ensures)
 
 returns-5 : tie.Need-returns-5
 returns-5 c =
-    written-by (c .before .before .before .before .before .args .t1) _ _ _ _ _ _ (c .before .before .stored-bits .ensures) (c .before .before .before .if1 .left) _ (is-reset _ _ _ (c .before .match .keys4)) (quiet-does _ _ (c .reset-written .ensures) _)
+    written-by (c .before .before .before .before .before .before .args .self) _ _ _ _ _ _ (c .before .before .stored-bits .ensures) (c .before .before .before .before .if1 .left) _ (is-reset _ _ _ (c .before .match .keys4)) (quiet-does _ _ (c .reset-written .ensures) _)
 
 returns-6 : tie.Need-returns-6
 returns-6 c =
     let k = c .before .match .rest in
-    let a = c .before .before .before .before .before .pre .0 .arranged in
+    let a = c .before .before .before .before .before .before .pre .0 .arranged in
     rw (c .done .ensures)
-    (written-by (c .before .before .before .before .before .args .t1) _ _ _ _ _ _ (c .before .before .stored-bits .ensures) (c .before .before .before .if1 .left) _ (is-plain _ _ _ (k .0 .0 .0 .1) (k .0 .0 .1) (k .0 .1) (k .1)) (rests _ (stored-arranged _ a _ _) _))
+    (written-by (c .before .before .before .before .before .before .args .self) _ _ _ _ _ _ (c .before .before .stored-bits .ensures) (c .before .before .before .before .if1 .left) _ (is-plain _ _ _ (k .0 .0 .0 .1) (k .0 .0 .1) (k .0 .1) (k .1)) (rests _ (stored-arranged _ a _ _) _))
 
 pub written-spec : {M : Type 1} → statement M
 written-spec =
@@ -82,7 +82,7 @@ written-spec =
     sub-at
     cast-at
     stored-bits-requires
-    element-write-self
+    array-write-cells
     control0-written-requires
     control1-written-requires
     control3-written-requires
