@@ -5,7 +5,7 @@ use Rattle.machine.specs.Events as events
 use Rattle.fusb302.specs.declared.device.Reply.{Reply}
 use Rattle.fusb302.specs.declared.device.Reply.the-variants.{Done, Value, No}
 use Rattle.fusb302.specs.Serves.{replied}
-use Rattle.fusb302.specs.Theorems.{OneMeaning, OneOutcome, OnePowerUp}
+use Rattle.fusb302.specs.Theorems.{OneMeaning, OneOutcome, OnePowerUp, OneLevel}
 
 -- the reply of a meaning
 replyOf : events.Reply → Reply
@@ -36,3 +36,6 @@ one-outcome e d before r s a b p q =
 
 pub one-power-up : OnePowerUp
 one-power-up d e p q = p .new ∙ sym (q .new)
+
+pub one-level : OneLevel
+one-level d r s p q = p ∙ sym q

@@ -1,8 +1,10 @@
 -- What holds of the promises themselves; proofs/Outcomes.antt has the proof of each statement.
 -- Assumes nothing.
 use mathlib.Core.Path.{_≡_}
+use mathlib.Core.Bool.{Bool, not}
 use mathlib.Core.List.{List}
 use Prim.Native.Nat.{ℕ}
+use Rattle.machine.specs.Status.{intLow}
 use Rattle.machine.specs.Events.{Event}
 use Rattle.fusb302.specs.declared.device.Device.{Device}
 use Rattle.fusb302.specs.declared.device.Reply.{Reply}
@@ -30,3 +32,6 @@ OneOutcome =
 
 abbrev pub OnePowerUp : Type 0
 OnePowerUp = (d e : Device) → PoweredUp d → PoweredUp e → view d ≡ view e
+
+abbrev pub OneLevel : Type 0
+OneLevel = (d : Device) (r s : Bool) → r ≡ not (intLow (view d)) → s ≡ not (intLow (view d)) → r ≡ s

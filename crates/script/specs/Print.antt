@@ -1,13 +1,12 @@
 -- What an outcome prints: reply, INT_N level after it, symbols or `-`; and what a line out of form prints.
 -- Assumes nothing.
 use mathlib.Core.Path.{_≡_}
-use mathlib.Core.Bool.{Bool, true, false, cond, _&&_}
+use mathlib.Core.Bool.{Bool, true, false, cond}
 use mathlib.Core.List.{List, [], _∷_, _++_}
 use Prim.Native.Nat.{ℕ, zero, suc, _+_, _/_, _%_}
 use lib.Dec.{ltb, leb}
 use lib.ListN.{length}
 use lib.Seq.{sets}
-use Rattle.line.specs.Write.{frameRoom}
 use Rattle.machine.specs.Events.{Reply, done, value, no}
 use Rattle.script.specs.Ascii.{text}
 
