@@ -1,10 +1,11 @@
--- What a method owes, by whether its event is refused; and what each kind of event is in the machine.
+-- What a method owes, by whether its event is refused; and where the symbols stand that it sent.
 -- Assumes nothing.
 use mathlib.Core.Path.{_≡_, refl, sym, ap, _∙_, subst}
 use mathlib.Core.List.{List}
 use mathlib.Core.Option.{none, some}
 use Prim.Native.Nat.{ℕ}
-use lib.ListN.{length}
+use lib.ListN.{length, take}
+use lib.Seq.{take-at}
 use Rattle.line.specs.Frame.{joined}
 use Rattle.machine.specs.Events.{Event, Fits}
 use Rattle.machine.specs.Refusals.{refusal}
@@ -40,3 +41,9 @@ module _ (e : Event) (d : Device) (before : List ℕ) (asks : Asks d) where
           lent = rw taken lent;
           refused = λ n q. absurd (accepted-reply (view d) e n (sym reply ∙ ap replied q));
         }
+
+-- what is counted of the lent symbols is the frames' symbols
+pub served-symbols : {e : Event} {d : Device} {before : List ℕ} {r : Outcome} {after : List ℕ} → Serves e d before r after
+    → take (r .count) after ≡ joined (step (view d) e .frames)
+served-symbols {e} {d} {r} serves =
+    ap (take (r .count)) (serves .lent) ∙ take-at (joined (step (view d) e .frames)) _ (r .count) (sym (serves .count))

@@ -7,8 +7,8 @@ use mathlib.Core.Option.{Option, none, some}
 use Prim.Native.Nat.{ℕ, _≤_}
 use native.Mathlib.Omega.{arith}
 use borrow.Author.Tests.{ltb-false}
-use lib.ListN.{length, take, drop}
-use lib.Seq.{take-at, drop-at}
+use lib.ListN.{length, drop}
+use lib.Seq.{drop-at}
 use Rattle.line.specs.Frame.{Frame, joined}
 use Rattle.line.specs.Write.{frameRoom}
 use Rattle.machine.specs.State.{State, powerUp}
@@ -26,6 +26,7 @@ use Rattle.fusb302.specs.declared.device.Reply.the-variants.{No}
 use Rattle.fusb302.specs.declared.device.Outcome.{Outcome}
 use Rattle.fusb302.specs.View.{view}
 use Rattle.fusb302.specs.Serves.{replied, Serves}
+use Rattle.fusb302.proofs.Serving.{served-symbols}
 use Rattle.fusb302.proofs.Outcomes.{one-meaning}
 use Rattle.lives.specs.Lives.{Lived, born, went}
 use Rattle.lives.specs.Theorems.{
@@ -75,10 +76,6 @@ record-more s es e = ap joined (frames-more s es e) ∙ joined-append (frames s 
 -- ---- one event
 
 module _ {e : Event} {d : Device} {before : List ℕ} {r : Outcome} {lent : List ℕ} (serves : Serves e d before r lent) where
-  -- what is counted of the lent symbols is the frames' symbols
-  sent : take (r .count) lent ≡ joined (step (view d) e .frames)
-  sent = ap (take (r .count)) (serves .lent) ∙ take-at (joined (step (view d) e .frames)) _ (r .count) (sym (serves .count))
-
   rest-stays : drop (r .count) lent ≡ drop (r .count) before
   rest-stays =
       ap (drop (r .count)) (serves .lent)
@@ -132,7 +129,7 @@ follows (went {es} {rs} {e} {r} life call serves) =
           ∙ ap₂ (λ (l : List events.Reply) a. l ++ (a ∷ [])) (f .answers) (serves .reply ∙ ap (λ (s : State). step s e .reply) at)
           ∙ sym (replies-more powerUp es e);
       joins =
-          ap₂ (λ (l m : List ℕ). l ++ m) (f .joins) (sent serves ∙ ap (λ (s : State). joined (step s e .frames)) at)
+          ap₂ (λ (l m : List ℕ). l ++ m) (f .joins) (served-symbols serves ∙ ap (λ (s : State). joined (step s e .frames)) at)
           ∙ sym (record-more powerUp es e);
     }
 
@@ -172,7 +169,7 @@ only-symbols-sent es d rs line e before r lent life call serves =
     let good = follows life .allowed .asks .good in
     record {
       counts = rw (serves .count) (symbols-sent (view d) e good (call .fits));
-      adds = ap length (sent serves) ∙ sym (serves .count);
+      adds = ap length (served-symbols serves) ∙ sym (serves .count);
       within = omega (arith, sent-within (view d) e good (call .fits));
       rest = rest-stays serves;
     }
