@@ -2,15 +2,18 @@
 use fusb302::Device;
 use script::parse::Number;
 use script::parse::decimal;
-use script::print::LINE_ROOM;
+use script::print::line_fits;
 use script::print::print_bad;
 use turn::turn;
 ghost use mathlib.Core.Path.{_≡_};
+ghost use mathlib.Core.Bool.{true};
 ghost use Prim.Native.Nat.{_+_, _≤_, _<_};
 ghost use lib.ListN.{length};
 ghost use Rattle.io.specs.Counts.{Counts};
+ghost use Rattle.text.specs.Put.{hasRoom};
 ghost use Rattle.fusb302.specs.View.{Asks};
 ghost use Rattle.script.specs.Parse.{Few};
+ghost use Rattle.script.specs.Print.{lineRoom};
 ghost use Rattle.bench.specs.Ready.{Right, Ready};
 
 // What was read and not yet taken: the octets from at to end of the buffer.
@@ -73,10 +76,10 @@ pub struct Stream {
 // Writes out what is printed where a line of text may not fit behind it.
 fn room(mut s: Stream, out: &[u8]) -> Stream
     requires { ⌜ Ready s × (length (now out) ≡ 65536) ⌝ }
-    ensures { λ r. ⌜ Ready r × (r .used + 227 ≤ 65536) ⌝ }
+    ensures { λ r. ⌜ Ready r × (hasRoom lineRoom (now (out .entry)) (r .used) ≡ true) ⌝ }
 {
     let used = s.used;
-    if used <= out.len() - LINE_ROOM {
+    if line_fits(out.len(), used) {
         return s;
     }
     s.on = io::write_all(1, &out[..used]);

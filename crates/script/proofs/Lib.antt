@@ -1,5 +1,4 @@
 -- Laws that the functions' proofs share, and the proofs of specs/Theorems.antt.
-pub mod Chars
 pub mod Masks
 pub mod Numbers
 pub mod Octets

@@ -10,11 +10,11 @@ use native.Mathlib.Omega.{arith}
 use borrow.Author.Tests.{le-leb, lt-leb}
 use lib.ListN.{length, take, drop, length-take, length-drop}
 use lib.Seq.{sets, sets-eq, take-all, length-take-le}
+use Rattle.text.specs.Ascii.{text}
 use Rattle.line.specs.Write.{frameRoom}
 use Rattle.machine.specs.Events.{Event, read, hardReset, packet}
 use Rattle.script.specs.declared.parse.Line.{Line}
 use Rattle.script.specs.declared.parse.Line.the-variants.{Write, Read, HardReset, Packet, Bad}
-use Rattle.script.specs.Ascii.{text}
 use Rattle.script.specs.Text.{fits, octetAt, digitsIn, areOctets, octetsIn}
 use Rattle.script.specs.Parse.{countOf, written, timed, kindPart, octetPart, packetOf, formOf, eventOf, setupOf, lineOf, octetsOf, Parses}
 use Rattle.script.proofs.Masks.{lengths-differ}

@@ -9,8 +9,8 @@ use native.Mathlib.Omega.{arith}
 use lib.Dec.{T}
 use lib.ListN.{length, drop, getD, drop-of-length-le}
 use lib.Seq.{drop-cons}
+use Rattle.text.proofs.Chars.{and-right}
 use Rattle.script.specs.Text.{suits, fits}
-use Rattle.script.proofs.Chars.{and-right}
 
 -- a mask fits only lines of its length
 pub lengths-differ : (m l : List ℕ) → (length m ≡ length l → ⊥) → false ≡ fits m l

@@ -9,8 +9,9 @@ use native.Mathlib.Omega.{arith}
 use lib.Dec.{T}
 use lib.ListN.{length, drop, getD, set, drop-of-length-le, length-drop, length-set}
 use lib.Seq.{drop-cons, sets}
-use Rattle.script.specs.Text.{octetOf, octetAt, isOctet, areOctets, octetsIn}
-use Rattle.script.proofs.Chars.{and-right}
+use Rattle.text.specs.Hex.{octetOf}
+use Rattle.text.proofs.Chars.{and-right}
+use Rattle.script.specs.Text.{octetAt, isOctet, areOctets, octetsIn}
 
 -- a whole group stands there
 three : (l : List ℕ) (i : ℕ) → i + 2 < length l → drop i l ≡ getD l i 0 ∷ getD l (i + 1) 0 ∷ getD l (i + 2) 0 ∷ drop (i + 3) l

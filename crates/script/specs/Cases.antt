@@ -4,11 +4,13 @@ use mathlib.Core.Path.{_≡_, refl}
 use mathlib.Core.Bool.{true, false}
 use mathlib.Core.List.{[], _∷_}
 use mathlib.Core.Option.{none, some}
+use Rattle.text.specs.Ascii.{text}
+use Rattle.text.specs.Hex.{isHex, nibbleOf, octetOf, digitOf, hexOf}
+use Rattle.text.specs.Put.{decimalOf, spaced, octetsText}
 use Rattle.machine.specs.Events.{write, read, pass, hardReset, packet, done, value, no}
-use Rattle.script.specs.Ascii.{text}
-use Rattle.script.specs.Text.{isHex, nibbleOf, octetOf, octetAt, suits, fits, isDigit, allDigits, isDecimal, onto, valueOf, digitsIn, isOctet, areOctets, octetsIn}
+use Rattle.script.specs.Text.{octetAt, suits, fits, isDigit, allDigits, isDecimal, onto, valueOf, digitsIn, isOctet, areOctets, octetsIn}
 use Rattle.script.specs.Parse.{countOf, kindPart, octetPart, packetOf, formOf, eventOf, setupOf}
-use Rattle.script.specs.Print.{digitOf, hexOf, decimalOf, replyText, spaced, symbolsText, outcomeText, badText}
+use Rattle.script.specs.Print.{replyText, outcomeText, badText}
 
 pub in-form :
     (countOf (text "2") ≡ some 2)
@@ -44,5 +46,5 @@ pub printed :
     × (outcomeText (value 0x08) true [] ≡ text "=08 1 -\n")
     × (outcomeText (no 8) true [] ≡ text "no8 1 -\n")
     × (badText 20000001 ≡ text "bad line 20000001\n")
-unfolding digitOf hexOf decimalOf replyText spaced symbolsText outcomeText badText
+unfolding digitOf hexOf decimalOf replyText spaced octetsText outcomeText badText
 printed = (refl, refl, refl, refl, refl)

@@ -7,13 +7,13 @@ use mathlib.Core.Option.{Option, none, some}
 use Prim.Native.Nat.{ℕ, _<_}
 use lib.Dec.{leb}
 use lib.ListN.{length, take, drop}
+use Rattle.text.specs.Ascii.{text}
 use Rattle.line.specs.Write.{frameRoom}
 use Rattle.machine.specs.Events.{Event, write, read, pass, hardReset, packet}
 use Rattle.script.specs.declared.parse.Line.{Line}
 use Rattle.script.specs.declared.parse.Line.the-variants.{Write, Read, Time, HardReset, Packet, Bad}
 use Rattle.script.specs.declared.parse.Number.{Number}
 use Rattle.script.specs.declared.parse.Number.the-variants.{Is, Not}
-use Rattle.script.specs.Ascii.{text}
 use Rattle.script.specs.Text.{fits, octetAt, isDecimal, valueOf, digitsIn, areOctets, octetsIn}
 
 -- ---- counts: a decimal

@@ -1,28 +1,13 @@
--- Characters and words: hex digits, decimals, masks, octets with a space before each.
+-- Words of a line: an octet, masks, decimals, octets with a space before each.
 -- Assumes nothing.
-use mathlib.Core.Bool.{Bool, true, false, cond, _&&_, _||_}
+use mathlib.Core.Bool.{Bool, true, false, cond, _&&_}
 use mathlib.Core.List.{List, [], _∷_}
 use Prim.Native.Nat.{ℕ, suc, _+_, _*_, _-_}
-use lib.Dec.{leb, eqb}
+use lib.Dec.{eqb}
 use lib.ListN.{length, getD}
+use Rattle.text.specs.Hex.{within, isHex, octetOf}
 
-abbrev pub within : ℕ → ℕ → ℕ → Bool
-within lo hi c = leb lo c && leb c hi
-
--- ---- hex: two capital digits
-
--- 0 to 9, A to F
-unfoldable pub isHex : ℕ → Bool
-isHex c = within 0x30 0x39 c || within 0x41 0x46 c
-
--- the value of a hex digit; 0 of any other character
-unfoldable pub nibbleOf : ℕ → ℕ
-nibbleOf c = cond (within 0x30 0x39 c) (c - 48) (cond (within 0x41 0x46 c) (c - 55) 0)
-
--- the octet that two digits write
-unfoldable pub octetOf : ℕ → ℕ → ℕ
-octetOf a b = 16 * nibbleOf a + nibbleOf b
-
+-- the octet that two digits write, from i on
 unfoldable pub octetAt : ℕ → List ℕ → ℕ
 octetAt i l = octetOf (getD l i 0) (getD l (i + 1) 0)
 

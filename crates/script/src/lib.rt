@@ -1,4 +1,3 @@
 // The bench's text: a line of input to an event, an outcome to a line of output.
-mod hex;
 pub mod parse;
 pub mod print;

@@ -1,13 +1,12 @@
 // A line of input to what it means (01, 'On the bench table').
-use crate::hex::is_digit;
-use crate::hex::is_hex;
-use crate::hex::octet_at;
+use text::hex::is_hex;
+use text::hex::octet_of;
 ghost use mathlib.Core.Path.{_≡_};
 ghost use mathlib.Core.Bool.{true};
 ghost use Prim.Native.Nat.{_+_, _*_, _-_, _≤_, _<_};
 ghost use lib.ListN.{length};
 ghost use lib.Seq.{sets};
-ghost use Rattle.script.specs.Text.{suits, fits, digitsIn, isOctet, areOctets, octetsIn};
+ghost use Rattle.script.specs.Text.{octetAt, suits, fits, isDigit, digitsIn, isOctet, areOctets, octetsIn};
 ghost use Rattle.script.specs.Parse.{countOf, timed, packetOf, eventOf, setupOf, counted, Few, lineOf, Parses};
 
 // What a line says; a packet's octets stand beside it, at the beginning of those lent.
@@ -23,6 +22,14 @@ pub enum Line {
 pub enum Number {
     Is(u32),
     Not,
+}
+
+// The octet that the two characters from `i` on write.
+fn octet_at(line: &[u8], i: usize) -> u8
+    requires { ⌜ i + 1 < length (now line) ⌝ }
+    ensures { λ r. ⌜ r ≡ octetAt i (now (line .entry)) ⌝ }
+{
+    octet_of(line[i], line[i + 1])
 }
 
 // A character of a mask: # for any hex digit, each other for itself.
@@ -47,6 +54,15 @@ fn fits(mask: &[u8], line: &[u8]) -> bool
         i += 1;
     }
     true
+}
+
+fn is_digit(c: u8) -> bool
+    ensures { λ r. ⌜ r ≡ isDigit c ⌝ }
+{
+    match c {
+        b'0'..=b'9' => true,
+        _ => false,
+    }
 }
 
 // The number that a digit makes of those before it.

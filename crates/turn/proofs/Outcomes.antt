@@ -10,13 +10,15 @@ use Rattle.turn.specs.Theorems.{OneTurn}
 pub one-turn : OneTurn
 unfolding Takes
 one-turn true d e number before at r s a b p q =
+    let x = p .acts in
+    let y = q .acts in
     record {
-      state = p .state ∙ sym (q .state);
-      ends = p .ends ∙ sym (q .ends);
-      at = p .prints .next ∙ sym (q .prints .next);
-      out = p .prints .stands ∙ sym (q .prints .stands);
+      state = x .state ∙ sym (y .state);
+      ends = x .ends ∙ sym (y .ends);
+      at = x .prints .next ∙ sym (y .prints .next);
+      out = x .prints .stands ∙ sym (y .prints .stands);
       octets = p .octets ∙ sym (q .octets);
-      symbols = p .symbols ∙ sym (q .symbols);
+      symbols = x .symbols ∙ sym (y .symbols);
     }
 one-turn false d e number before at r s a b p q =
     let same : r ≡ s = p .0 ∙ sym (q .0) in

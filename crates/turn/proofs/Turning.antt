@@ -2,14 +2,17 @@
 -- Assumes nothing.
 use mathlib.Core.Path.{_≡_, refl, sym, ap, ap₂, _∙_, subst}
 use mathlib.Core.Bool.{Bool, true, false, not, cond, _&&_, true≢false}
-use mathlib.Core.List.{List, [], _∷_, _++_}
+use mathlib.Core.List.{List}
 use mathlib.Core.Option.{Option, none, some}
-use Prim.Native.Nat.{ℕ, _+_, _-_, _*_, _<_, _≤_}
+use Prim.Native.Nat.{ℕ, _+_, _≤_}
 use native.Mathlib.Omega.{arith}
-use borrow.Author.Tests.{le-leb, lt-leb, leb-true}
+use borrow.Author.Tests.{le-leb, leb-true}
 use lib.Dec.{leb}
-use lib.ListN.{length, take, drop, length-append, length-drop}
+use lib.ListN.{length, take, drop, length-append}
 use lib.Seq.{take-at, length-take-le}
+use Rattle.text.specs.Ascii.{text}
+use Rattle.text.specs.Put.{hasRoom, Puts, Prints}
+use Rattle.text.proofs.Texts.{few, octets-long}
 use Rattle.line.specs.Frame.{joined}
 use Rattle.line.specs.Write.{frameRoom}
 use Rattle.machine.specs.Status.{intLow}
@@ -21,15 +24,15 @@ use Rattle.fusb302.specs.declared.device.Reply.the-variants.{Done}
 use Rattle.fusb302.specs.declared.device.Outcome.{Outcome}
 use Rattle.fusb302.specs.View.{view, Asks}
 use Rattle.fusb302.specs.Serves.{replied, over, Serves}
+use Rattle.fusb302.proofs.Serving.{served-symbols}
 use Rattle.script.specs.declared.parse.Line.{Line}
 use Rattle.script.specs.declared.parse.Line.the-variants.{Write, Read, Time, HardReset, Packet, Bad}
-use Rattle.script.specs.Ascii.{text}
 use Rattle.script.specs.Text.{fits, octetAt, areOctets, octetsIn}
-use Rattle.script.specs.Parse.{countOf, written, timed, octetPart, kindPart, heard, packetOf, formOf, eventOf, setupOf, lineOf, octetsOf, Parses}
-use Rattle.script.specs.Print.{hexOf, decimalOf, replyText, spaced, symbolsText, outcomeText, badText, lineRoom, hasRoom, Puts, Prints}
-use Rattle.script.proofs.Texts.{few, short}
+use Rattle.script.specs.Parse.{countOf, written, timed, octetPart, kindPart, heard, packetOf, formOf, eventOf, setupOf, lineOf, Parses}
+use Rattle.script.specs.Print.{outcomeText, badText, lineRoom}
+use Rattle.script.proofs.Texts.{short}
 use Rattle.turn.specs.declared.Turned.{Turned}
-use Rattle.turn.specs.Turn.{meantBy, missing, leftBy, sentBy, shown, textOf, Turns, Takes, Lent, eventFor, heardOf, isBad, Steps, Acts}
+use Rattle.turn.specs.Turn.{meantBy, missing, leftBy, sentBy, shown, textOf, Takes, Lent, eventFor, heardOf, isBad, Steps, Acts}
 
 -- ---- a line's event is lent room for one frame
 
@@ -156,9 +159,6 @@ sent-fits f before after e long =
     omega arith
 
 module _ (d : Device) (e : Event) (before : List ℕ) (r : Outcome) (after : List ℕ) (serves : Serves e d before r after) where
-  sent : take (r .count) after ≡ joined (step (view d) e .frames)
-  sent = ap (take (r .count)) (serves .lent) ∙ take-at (joined (step (view d) e .frames)) _ (r .count) (sym (serves .count))
-
   pub counts : length after ≡ length before → r .count ≤ length before
   counts long = let m = sent-fits (joined (step (view d) e .frames)) before after (serves .lent) long in let n = serves .count in omega arith
 
@@ -179,21 +179,11 @@ module _ (line : Line) (os : List ℕ) (d : Device) (before : List ℕ) (r : Out
 
 -- ---- any line of text has room
 
-spaced-length : (l : List ℕ) → length (spaced l) ≡ 3 * length l
-unfolding spaced hexOf
-spaced-length [] = refl
-spaced-length (s ∷ l) = let e = spaced-length l in omega arith
-
-symbols-few : (l : List ℕ) → length l ≤ frameRoom → length (symbolsText l) ≤ 219
-unfolding symbolsText
-symbols-few [] h = omega arith
-symbols-few (s ∷ l) h = let e = spaced-length (s ∷ l) in omega arith
-
 outcome-few : (r : Reply) (high : Bool) (l : List ℕ) → length l ≤ frameRoom → length (outcomeText r high l) ≤ lineRoom
 unfolding outcomeText
 outcome-few r high l h =
     let a = short r in
-    let b = symbols-few l h in
+    let b = octets-long 72 l h in
     simp length-append (omega arith)
 
 bad-few : (n : ℕ) → length (badText n) ≤ lineRoom
@@ -202,11 +192,11 @@ bad-few n = let a = few 8 n in simp length-append (omega arith)
 
 -- ---- a parsed line whole
 
-module _ (d : Device) (line : Line) (number : ℕ) (os symbols out : List ℕ) (at : ℕ) (roomy : hasRoom out at ≡ true) (end : ℕ) (out′ : List ℕ) where
+module _ (d : Device) (line : Line) (number : ℕ) (os symbols out : List ℕ) (at : ℕ) (roomy : hasRoom lineRoom out at ≡ true) (end : ℕ) (out′ : List ℕ) where
   behind : at + lineRoom ≤ length out
   behind = leb-true (at + lineRoom) (length out) roomy
 
-  pub acts-bad : Asks d → isBad line ≡ true → Prints (hasRoom out at) out at (badText number) end out′
+  pub acts-bad : Asks d → isBad line ≡ true → Prints (hasRoom lineRoom out at) out at (badText number) end out′
       → Acts d (eventFor line os) number symbols out at (record { device = d; ends = true; at = end }) symbols out′
   unfolding Prints textOf leftBy sentBy joined
   acts-bad asks bad p = go (eventFor line os) (missing-is line os ∙ bad)
@@ -228,7 +218,7 @@ module _ (d : Device) (line : Line) (number : ℕ) (os symbols out : List ℕ) (
 
   module _ (symbols′ : List ℕ) (o : Outcome) (lent : length symbols ≡ 73) (kept : length symbols′ ≡ 73) (high : Bool) (level : high ≡ not (intLow (view (o .device)))) where
     pub acts-done : isBad line ≡ false → Steps (eventFor line os) d symbols o symbols′
-        → Prints (leb (length (take (o .count) symbols′)) frameRoom && hasRoom out at) out at (outcomeText (replied (o .reply)) high (take (o .count) symbols′)) end out′
+        → Prints (leb (length (take (o .count) symbols′)) frameRoom && hasRoom lineRoom out at) out at (outcomeText (replied (o .reply)) high (take (o .count) symbols′)) end out′
         → Acts d (eventFor line os) number symbols out at (record { device = o .device; ends = false; at = end }) symbols′ out′
     unfolding Prints textOf leftBy sentBy shown
     acts-done good steps p = go (eventFor line os) (missing-is line os ∙ good) steps
@@ -261,50 +251,32 @@ module _ (d : Device) (line : Line) (number : ℕ) (os symbols out : List ℕ) (
                 ≡ outcomeText (step (view d) e .reply) (not (intLow (step (view d) e .state))) (joined (step (view d) e .frames))
             text-is e h =
                 ap₂ (λ (r : Reply) (b : Bool). outcomeText r b (take (o .count) symbols′)) (h .reply) (level ∙ ap (λ (s : State). not (intLow s)) (h .state))
-                ∙ ap (outcomeText (step (view d) e .reply) (not (intLow (step (view d) e .state)))) (sent d e symbols o symbols′ h)
+                ∙ ap (outcomeText (step (view d) e .reply) (not (intLow (step (view d) e .state)))) (served-symbols h)
 
 -- ---- the whole line
 
-pub takes-none : (d : Device) (e : Option Event) (number : ℕ) (before : Lent) (at : ℕ) → hasRoom (before .out) at ≡ false
-    → Takes (hasRoom (before .out) at) d e number before at (record { device = d; ends = true; at = at }) before
+pub takes-none : {b : Bool} (d : Device) (e : Option Event) (number : ℕ) (before : Lent) (at : ℕ) → b ≡ false
+    → Takes b d e number before at (record { device = d; ends = true; at = at }) before
 unfolding Takes
 takes-none d e number before at h = rw h (refl, refl)
 
-pub small-none : (out : List ℕ) (at : ℕ) → length out < lineRoom → hasRoom out at ≡ false
-small-none out at h = lt-leb (at + lineRoom) (length out) (omega arith)
-
-pub late-none : (out : List ℕ) (at : ℕ) → length out - lineRoom < at → hasRoom out at ≡ false
-late-none out at h = lt-leb (at + lineRoom) (length out) (omega arith)
-
-pub has-room : (out : List ℕ) (at : ℕ) → lineRoom ≤ length out → at ≤ length out - lineRoom → hasRoom out at ≡ true
-has-room out at p q = le-leb (at + lineRoom) (length out) (omega arith)
-
-pub takes-line : (d : Device) (setup : Bool) (l : List ℕ) (number : ℕ) (out octets symbols : List ℕ) (at : ℕ) → hasRoom out at ≡ true
-    → (meant : Line) (octets′ : List ℕ) → Parses (meantBy setup l) octets meant octets′ → (r : Turned) (symbols′ out′ : List ℕ)
-    → Acts d (eventFor meant octets′) number symbols out at r symbols′ out′
-    → Takes (hasRoom out at) d (meantBy setup l) number (record { out = out; octets = octets; symbols = symbols }) at r
-    (record { out = out′; octets = octets′; symbols = symbols′ })
+pub takes-line : {b : Bool} (d : Device) (setup : Bool) (l : List ℕ) (number : ℕ) (before : Lent) (at : ℕ) (meant : Line) (r : Turned) (after : Lent)
+    → b ≡ true → Parses (meantBy setup l) (before .octets) meant (after .octets)
+    → Acts d (eventFor meant (after .octets)) number (before .symbols) (before .out) at r (after .symbols) (after .out)
+    → Takes b d (meantBy setup l) number before at r after
 unfolding Takes
-takes-line d setup l number out octets symbols at roomy meant octets′ p r symbols′ out′ x =
-    let h = subst (λ (e : Option Event). Acts d e number symbols out at r symbols′ out′) (parsed-event setup l octets meant octets′ p) x in
-    rw roomy
-    (record {
-      ends = h .ends;
-      state = h .state;
-      asks = h .asks;
-      prints = h .prints;
-      fits = h .fits;
-      octets = p .leaves;
-      symbols = h .symbols;
-    })
+takes-line d setup l number before at meant r after roomy p x =
+    let is = parsed-event setup l (before .octets) meant (after .octets) p in
+    let acts = subst (λ (e : Option Event). Acts d e number (before .symbols) (before .out) at r (after .symbols) (after .out)) is x in
+    rw roomy (record { acts = acts; octets = p .leaves })
 
 -- ---- what was printed lies in what was lent
 
-pub bad-within : (out : List ℕ) (at n r : ℕ) (out′ : List ℕ) → at ≤ length out → Prints (hasRoom out at) out at (badText n) r out′ → r ≤ length out
+pub bad-within : (out : List ℕ) (at n r : ℕ) (out′ : List ℕ) → at ≤ length out → Prints (hasRoom lineRoom out at) out at (badText n) r out′ → r ≤ length out
 unfolding Prints
-bad-within out at n r out′ h = go (hasRoom out at) refl
+bad-within out at n r out′ h = go (hasRoom lineRoom out at) refl
   where
-    go : (b : Bool) → hasRoom out at ≡ b → Prints b out at (badText n) r out′ → r ≤ length out
+    go : (b : Bool) → hasRoom lineRoom out at ≡ b → Prints b out at (badText n) r out′ → r ≤ length out
     go true e p =
         let k = leb-true (at + lineRoom) (length out) e in
         let m = p .next in
@@ -315,10 +287,10 @@ bad-within out at n r out′ h = go (hasRoom out at) refl
 module _ (d : Device) (e : Option Event) (number : ℕ) (before : Lent) (at : ℕ) (r : Turned) (after : Lent) where
   pub turn-asks : (b : Bool) → Asks d → Takes b d e number before at r after → Asks (r .device)
   unfolding Takes
-  turn-asks true asks h = h .asks
+  turn-asks true asks h = h .acts .asks
   turn-asks false asks h = rw (h .0) asks
 
   pub turn-within : (b : Bool) → at ≤ length (before .out) → Takes b d e number before at r after → r .at ≤ length (before .out)
   unfolding Takes
-  turn-within true h t = t .fits
+  turn-within true h t = t .acts .fits
   turn-within false h t = rw (t .0) h

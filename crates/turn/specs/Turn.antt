@@ -2,10 +2,11 @@
 -- Assumes nothing.
 use mathlib.Core.Path.{_≡_}
 use mathlib.Core.Bool.{Bool, true, false, not, cond}
-use mathlib.Core.List.{List, [], _++_}
+use mathlib.Core.List.{List, []}
 use mathlib.Core.Option.{Option, none, some}
 use Prim.Native.Nat.{ℕ, _≤_}
-use lib.ListN.{length, take, drop}
+use lib.ListN.{length, take}
+use Rattle.text.specs.Put.{Puts}
 use Rattle.line.specs.Frame.{Frame, joined}
 use Rattle.line.specs.Write.{frameRoom}
 use Rattle.machine.specs.State.{State}
@@ -20,7 +21,7 @@ use Rattle.fusb302.specs.Serves.{over, Serves}
 use Rattle.script.specs.declared.parse.Line.{Line}
 use Rattle.script.specs.declared.parse.Line.the-variants.{Write, Read, Time, HardReset, Packet, Bad}
 use Rattle.script.specs.Parse.{eventOf, setupOf, octetsOf}
-use Rattle.script.specs.Print.{outcomeText, badText, Puts}
+use Rattle.script.specs.Print.{outcomeText, badText}
 use Rattle.turn.specs.declared.Turned.{Turned}
 
 -- ---- a line's event, or none where it is out of form
@@ -58,15 +59,19 @@ pub record Lent : Type 0 where
   pub octets : List ℕ
   pub symbols : List ℕ
 
--- a line is taken
-pub record Turns (d : Device) (e : Option Event) (number : ℕ) (before : Lent) (at : ℕ) (r : Turned) (after : Lent) : Type 0 where
+-- a parsed line is done and printed
+pub record Acts (d : Device) (e : Option Event) (number : ℕ) (lent out : List ℕ) (at : ℕ) (r : Turned) (sent out′ : List ℕ) : Type 0 where
   pub ends : r .ends ≡ missing e
   pub state : view (r .device) ≡ leftBy (view d) e
   pub asks : Asks (r .device)
-  pub prints : Puts (before .out) at (textOf (view d) e number) (r .at) (after .out)
-  pub fits : r .at ≤ length (before .out)
+  pub prints : Puts out at (textOf (view d) e number) (r .at) out′
+  pub fits : r .at ≤ length out
+  pub symbols : sent ≡ over (joined (sentBy (view d) e)) lent
+
+-- a line is taken
+pub record Turns (d : Device) (e : Option Event) (number : ℕ) (before : Lent) (at : ℕ) (r : Turned) (after : Lent) : Type 0 where
+  pub acts : Acts d e number (before .symbols) (before .out) at r (after .symbols) (after .out)
   pub octets : after .octets ≡ over (octetsOf e) (before .octets)
-  pub symbols : after .symbols ≡ over (joined (sentBy (view d) e)) (before .symbols)
 
 -- or, where its text need not fit, all stays as it stood and the run ends
 unfoldable pub Takes : Bool → Device → Option Event → ℕ → Lent → ℕ → Turned → Lent → Type 0
@@ -103,12 +108,3 @@ isBad Bad = true
 abbrev pub Steps : Option Event → Device → List ℕ → Outcome → List ℕ → Type 0
 Steps none d before r after = (r ≡ record { device = d; reply = Done; count = 0 }) × (after ≡ before)
 Steps (some e) d before r after = Serves e d before r after
-
--- a parsed line is done and printed
-pub record Acts (d : Device) (e : Option Event) (number : ℕ) (lent out : List ℕ) (at : ℕ) (r : Turned) (sent out′ : List ℕ) : Type 0 where
-  pub ends : r .ends ≡ missing e
-  pub state : view (r .device) ≡ leftBy (view d) e
-  pub asks : Asks (r .device)
-  pub prints : Puts out at (textOf (view d) e number) (r .at) out′
-  pub fits : r .at ≤ length out
-  pub symbols : sent ≡ over (joined (sentBy (view d) e)) lent

@@ -5,16 +5,17 @@ use fusb302::Reply;
 use script::parse::Line;
 use script::parse::parse_event;
 use script::parse::parse_setup;
-use script::print::LINE_ROOM;
+use script::print::line_fits;
 use script::print::print_bad;
 use script::print::print_outcome;
 ghost use mathlib.Core.Path.{_≡_};
-ghost use mathlib.Core.Bool.{Bool, true, false, cond};
-ghost use Prim.Native.Nat.{ℕ, _+_, _≤_};
+ghost use mathlib.Core.Bool.{true};
+ghost use Prim.Native.Nat.{_≤_};
 ghost use lib.ListN.{length};
+ghost use Rattle.text.specs.Put.{hasRoom};
 ghost use Rattle.fusb302.specs.View.{Asks};
 ghost use Rattle.script.specs.Parse.{Parses};
-ghost use Rattle.script.specs.Print.{hasRoom, lineRoom};
+ghost use Rattle.script.specs.Print.{lineRoom};
 ghost use Rattle.turn.specs.Turn.{meantBy, eventFor, heardOf, isBad, Steps, Acts, Takes};
 
 // After a line: the device, whether the run ends there, and the place behind what was printed.
@@ -75,7 +76,7 @@ fn act(
     out: &mut [u8],
     at: usize,
 ) -> Turned
-    requires { ⌜ Asks device × (heardOf line ≤ length (now octets)) × (length (now symbols) ≡ 73) × (hasRoom (now out) at ≡ true) ⌝ }
+    requires { ⌜ Asks device × (heardOf line ≤ length (now octets)) × (length (now symbols) ≡ 73) × (hasRoom lineRoom (now out) at ≡ true) ⌝ }
     ensures { λ r. ⌜ Acts device (eventFor line (now (octets .entry))) number (now (symbols .entry)) (now (out .entry)) at r (now (symbols .exit)) (now (out .exit)) ⌝ }
 {
     if is_bad(line) {
@@ -111,22 +112,15 @@ pub fn turn(
     at: usize,
 ) -> Turned
     requires { ⌜ Asks device ⌝ }
-    ensures { λ r. ⌜ Takes (hasRoom (now (out .entry)) at) device (meantBy setup (now (line .entry))) number (record { out = now (out .entry); octets = now (octets .entry); symbols = now (symbols .entry) }) at r (record { out = now (out .exit); octets = now (octets .exit); symbols = now (symbols .exit) }) ⌝ }
+    ensures { λ r. ⌜ Takes (hasRoom lineRoom (now (out .entry)) at) device (meantBy setup (now (line .entry))) number (record { out = now (out .entry); octets = now (octets .entry); symbols = now (symbols .entry) }) at r (record { out = now (out .exit); octets = now (octets .exit); symbols = now (symbols .exit) }) ⌝ }
 {
-    if out.len() < LINE_ROOM {
-        return Turned {
-            device,
-            ends: true,
-            at,
-        };
+    if line_fits(out.len(), at) {
+        let meant = parsed(setup, line, octets);
+        return act(device, meant, number, octets, symbols, out, at);
     }
-    if out.len() - LINE_ROOM < at {
-        return Turned {
-            device,
-            ends: true,
-            at,
-        };
+    Turned {
+        device,
+        ends: true,
+        at,
     }
-    let meant = parsed(setup, line, octets);
-    act(device, meant, number, octets, symbols, out, at)
 }

@@ -1,7 +1,8 @@
 -- The texts stand one after the other, and a number has 8 digits at most.
 use native.Mathlib.Omega.{arith}
 use borrow.Author.Needs.{needs}
-use Rattle.script.proofs.Texts.{few, bad-line}
+use Rattle.text.proofs.Texts.{few}
+use Rattle.script.proofs.Texts.{bad-line}
 use Rattle.script.proofs.print.put_bad.Statement.{statement}
 use Rattle.script.proofs.print.put_bad.Tie as tie
 

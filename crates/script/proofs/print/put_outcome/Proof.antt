@@ -1,8 +1,9 @@
 -- The texts stand one after the other, each no longer than its room.
 use native.Mathlib.Omega.{arith}
 use borrow.Author.Needs.{needs}
+use Rattle.text.proofs.Texts.{octets-long}
 use Rattle.fusb302.specs.Serves.{replied}
-use Rattle.script.proofs.Texts.{short, symbols-long, outcome}
+use Rattle.script.proofs.Texts.{short, outcome}
 use Rattle.script.proofs.print.put_outcome.Statement.{statement}
 use Rattle.script.proofs.print.put_outcome.Tie as tie
 
@@ -25,8 +26,8 @@ put-requires-2 c κs =
     let begun = reply .before .before .before .before in
     omega (arith, short (replied (begun .args .reply)), reply .put-reply .ensures .next, reply .put-reply .kept .1 .0, space .put .ensures .next)
 
-put-symbols-requires : tie.Need-put-symbols-requires
-put-symbols-requires c κs =
+put-octets-requires : tie.Need-put-octets-requires
+put-octets-requires c κs =
     let level = c .before .before .before in
     let space = level .before .before .before .before .before in
     let reply = space .before .before .before .before in
@@ -40,7 +41,7 @@ put-requires-3 c κs =
     let space = level .before .before .before .before .before in
     let reply = space .before .before .before .before in
     let begun = reply .before .before .before .before in
-    omega (arith, short (replied (begun .args .reply)), reply .put-reply .ensures .next, reply .put-reply .kept .1 .0, space .put .ensures .next, level .put2 .ensures .next, symbols .put-symbols .ensures .next, symbols-long (begun .args .symbols .now) (begun .pre .0))
+    omega (arith, short (replied (begun .args .reply)), reply .put-reply .ensures .next, reply .put-reply .kept .1 .0, space .put .ensures .next, level .put2 .ensures .next, symbols .put-octets .ensures .next, octets-long 72 (begun .args .symbols .now) (begun .pre .0))
 
 same-length : tie.Need-same-length
 same-length c = search needs
@@ -52,7 +53,7 @@ returns c =
     let level = symbols .before .before .before .before in
     let space = level .before .before .before .before .before in
     let reply = space .before .before .before .before in
-    outcome _ _ _ (reply .put-reply .ensures) (space .put .ensures) (level .before .before .level .ensures) (level .put2 .ensures) (symbols .put-symbols .ensures) (end .put3 .ensures)
+    outcome _ _ _ (reply .put-reply .ensures) (space .put .ensures) (level .before .before .level .ensures) (level .put2 .ensures) (symbols .put-octets .ensures) (end .put3 .ensures)
 
 pub put-outcome-spec : {M : Type 1} → statement M
 put-outcome-spec =
@@ -62,7 +63,7 @@ put-outcome-spec =
     put-requires
     level-requires
     put-requires-2
-    put-symbols-requires
+    put-octets-requires
     put-requires-3
     same-length
     returns)

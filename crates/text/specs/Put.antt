@@ -1,0 +1,40 @@
+-- Texts, and where they are put.
+-- Assumes nothing.
+use mathlib.Core.Path.{_≡_}
+use mathlib.Core.Bool.{Bool, true, false, cond}
+use mathlib.Core.List.{List, [], _∷_, _++_}
+use Prim.Native.Nat.{ℕ, zero, suc, _+_, _/_, _%_}
+use lib.Dec.{ltb, leb}
+use lib.ListN.{length}
+use lib.Seq.{sets}
+use Rattle.text.specs.Ascii.{text}
+use Rattle.text.specs.Hex.{hexOf}
+
+-- a number in decimal, of at most so many digits
+unfoldable pub decimalOf : ℕ → ℕ → List ℕ
+decimalOf zero n = []
+decimalOf (suc k) n = cond (ltb n 10) ((48 + n) ∷ []) (decimalOf k (n / 10) ++ ((48 + n % 10) ∷ []))
+
+-- a space and two digits for each octet
+unfoldable pub spaced : List ℕ → List ℕ
+spaced [] = []
+spaced (s ∷ ss) = 0x20 ∷ (hexOf s ++ spaced ss)
+
+-- the same, and ` -` for none
+unfoldable pub octetsText : List ℕ → List ℕ
+octetsText [] = text " -"
+octetsText (s ∷ ss) = spaced (s ∷ ss)
+
+-- t stands in the lent octets from at on, the rest as before, and r is the place after it
+pub record Puts (before : List ℕ) (at : ℕ) (t : List ℕ) (r : ℕ) (after : List ℕ) : Type 0 where
+  pub next : r ≡ at + length t
+  pub stands : after ≡ sets before at t
+
+-- so many more have room behind at
+abbrev pub hasRoom : ℕ → List ℕ → ℕ → Bool
+hasRoom need before at = leb (at + need) (length before)
+
+-- a whole text, or, where it need not fit, nothing
+unfoldable pub Prints : Bool → List ℕ → ℕ → List ℕ → ℕ → List ℕ → Type 0
+Prints true before at t r after = Puts before at t r after
+Prints false before at t r after = (r ≡ at) × (after ≡ before)
