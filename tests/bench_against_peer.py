@@ -219,20 +219,19 @@ def unread_output():
     return writing
 
 
-def output_endings(bench):
-    """Output that is full or closed ends the bench within a second, although it was promised more events than ever come."""
-    events = b'h\n' * 300_000
+def output_endings(program, unended, ended):
+    """Output that is full or closed ends a program within a second, although after `unended` it would wait for more input."""
     allowed = {b'', b'ended by signal %d' % signal.SIGPIPE}
 
     def to(output):
         descriptor = output()
-        ended = left_open(bench, in_pieces(b'0\n9999999\n' + events, [4096]), descriptor, 1.0)
+        printed = left_open(program, in_pieces(unended, [4096]), descriptor, 1.0)
         os.close(descriptor)
-        return ended
+        return printed
 
     def to_nothing():
         # What a program's start may put in the place of a closed output takes all, so this input has an end.
-        return answers(['sh', '-c', 'exec "$0" >&-', bench], 1.0, input=b'0\n300000\n' + events)
+        return answers(['sh', '-c', 'exec "$0" >&-', program], 1.0, input=ended)
 
     for name, run in (('full', lambda: to(full_output)), ('not read', lambda: to(unread_output)), ('closed', to_nothing)):
         # Three tries, since a loaded machine may be late itself.
@@ -295,7 +294,9 @@ def main():
     name = next((name for name, events in directed.items() if differ(programs, joined([], events))), None)
     wrong += [form_difference(programs, name, [], directed[name])] if name else []
     wrong += [raw_difference(programs, name, text) for name, text in extremes().items() if differ(programs, text)]
-    wrong += ['the bench ' + one for one in (*output_endings(programs[0]), *input_endings(programs[0], seed))]
+    events = b'h\n' * 300_000
+    endings = output_endings(programs[0], b'0\n9999999\n' + events, b'0\n300000\n' + events)
+    wrong += ['the bench ' + one for one in (*endings, *input_endings(programs[0], seed))]
     if not wrong and seen != DUE:
         wrong.append('the long texts never bring about: ' + ', '.join(sorted(DUE - seen)))
     if not wrong and not 0 < bad < DAMAGED:

@@ -1,4 +1,4 @@
-//! The line code of USB Power Delivery: symbols, CRC-32, headers and the frame writer (01 'Line code').
+//! The line code of USB Power Delivery: symbols, CRC-32, headers, the frame writer and reader (01 'Line code').
 
 const SYNC_1: u8 = 0x18;
 const SYNC_2: u8 = 0x11;
@@ -46,6 +46,22 @@ impl Kind {
 }
 
 const HARD_RESET: [u8; 4] = [RST_1, RST_1, RST_1, RST_2];
+
+/// The number of a Hard Reset where kinds are numbered.
+const HARD_RESET_NUMBER: usize = 5;
+
+/// The ordered sets by number.
+const SETS: [[u8; 4]; HARD_RESET_NUMBER + 1] = [
+    Kind::Sop.ordered_set(),
+    Kind::Sop1.ordered_set(),
+    Kind::Sop2.ordered_set(),
+    Kind::Sop1Db.ordered_set(),
+    Kind::Sop2Db.ordered_set(),
+    HARD_RESET,
+];
+
+const SHORTEST_MESSAGE: usize = 2;
+const LONGEST_MESSAGE: usize = 30;
 
 /// How many octets a CRC has, least significant first.
 pub const CRC_LENGTH: usize = 4;
@@ -136,21 +152,27 @@ pub struct Roles {
     pub revision: u8,
 }
 
-/// The symbols that leave in one event: those of one frame, or none.
+/// The symbols that leave in one event: those of one frame, or none; and what the frame was written from.
 #[derive(Clone)]
 pub struct Frame {
     symbols: [u8; Self::LONGEST],
     length: usize,
+    number: usize,
+    message: [u8; LONGEST_MESSAGE],
+    message_length: usize,
 }
 
 impl Frame {
     /// Ordered set, 30 octets and the CRC as two symbols each, EOP.
-    pub const LONGEST: usize = 4 + 2 * (30 + CRC_LENGTH) + 1;
+    pub const LONGEST: usize = 4 + 2 * (LONGEST_MESSAGE + CRC_LENGTH) + 1;
 
     pub const fn silent() -> Self {
         Frame {
             symbols: [0; Self::LONGEST],
             length: 0,
+            number: 0,
+            message: [0; LONGEST_MESSAGE],
+            message_length: 0,
         }
     }
 
@@ -162,9 +184,18 @@ impl Frame {
         &self.symbols[..self.length]
     }
 
+    /// The number of the kind and the message that the frame was written from, if there is one.
+    pub fn origin(&self) -> Option<(usize, &[u8])> {
+        let message = &self.message[..self.message_length];
+        (self.length > 0).then_some((self.number, message))
+    }
+
     /// Writes the frame of a message of 2 to 30 octets.
     pub fn write_message(&mut self, kind: Kind, message: &[u8]) {
         self.clear();
+        self.number = kind as usize;
+        self.message[..message.len()].copy_from_slice(message);
+        self.message_length = message.len();
         self.push(&kind.ordered_set());
         self.push_octets(message);
         self.push_octets(&crc32(message).to_le_bytes());
@@ -173,6 +204,8 @@ impl Frame {
 
     pub fn write_hard_reset(&mut self) {
         self.clear();
+        self.number = HARD_RESET_NUMBER;
+        self.message_length = 0;
         self.push(&HARD_RESET);
     }
 
@@ -190,6 +223,92 @@ impl Frame {
             pair[1] = NIBBLE_SYMBOLS[usize::from(octet >> 4)];
         }
         self.length = end;
+    }
+}
+
+/// Why a record does not go on with a frame, by its number in 01.
+#[derive(Clone, Copy, Debug, PartialEq, Eq)]
+pub enum Unread {
+    NoFrame = 13,
+    CutShort = 14,
+    WrongCrc = 15,
+}
+
+/// Reads a record frame after frame, one symbol at a time (01 'Line reader').
+pub struct Reader {
+    /// How many symbols of the frame under way were taken.
+    taken: usize,
+    set: [u8; 4],
+    octets: [u8; Self::MOST_OCTETS],
+}
+
+impl Reader {
+    const FEWEST_OCTETS: usize = SHORTEST_MESSAGE + CRC_LENGTH;
+    const MOST_OCTETS: usize = LONGEST_MESSAGE + CRC_LENGTH;
+
+    pub const fn new() -> Self {
+        Reader {
+            taken: 0,
+            set: [0; 4],
+            octets: [0; Self::MOST_OCTETS],
+        }
+    }
+
+    /// Takes a symbol; if it ends a frame, answers the number of the kind and the octets with CRC.
+    pub fn take(&mut self, symbol: u8) -> Result<Option<(usize, &[u8])>, Unread> {
+        let place = self.taken;
+        self.taken += 1;
+        match place.checked_sub(self.set.len()) {
+            None => self.take_of_set(place, symbol),
+            Some(nibbles) if symbol == EOP => self.end(nibbles).map(Some),
+            Some(nibbles) => self.take_nibble(nibbles, symbol),
+        }
+    }
+
+    fn take_of_set(&mut self, place: usize, symbol: u8) -> Result<Option<(usize, &[u8])>, Unread> {
+        self.set[place] = symbol;
+        let begun = &self.set[..=place];
+        if !SETS.iter().any(|set| set.starts_with(begun)) {
+            return Err(Unread::NoFrame);
+        }
+        if begun != HARD_RESET {
+            return Ok(None);
+        }
+        self.taken = 0;
+        Ok(Some((HARD_RESET_NUMBER, &[])))
+    }
+
+    fn take_nibble(
+        &mut self,
+        nibbles: usize,
+        symbol: u8,
+    ) -> Result<Option<(usize, &[u8])>, Unread> {
+        let nibble = NIBBLE_SYMBOLS.iter().position(|&one| one == symbol);
+        let nibble = nibble.ok_or(Unread::NoFrame)? as u8;
+        let octet = self.octets.get_mut(nibbles / 2).ok_or(Unread::NoFrame)?;
+        *octet = match nibbles % 2 {
+            0 => nibble,
+            _ => nibble << 4 | *octet,
+        };
+        Ok(None)
+    }
+
+    fn end(&mut self, nibbles: usize) -> Result<(usize, &[u8]), Unread> {
+        if nibbles % 2 == 1 || nibbles / 2 < Self::FEWEST_OCTETS {
+            return Err(Unread::NoFrame);
+        }
+        self.taken = 0;
+        let octets = &self.octets[..nibbles / 2];
+        let (message, crc) = octets.split_at(octets.len() - CRC_LENGTH);
+        if crc != crc32(message).to_le_bytes() {
+            return Err(Unread::WrongCrc);
+        }
+        Ok((self.number(), octets))
+    }
+
+    /// The number of the kind whose set was taken.
+    fn number(&self) -> usize {
+        SETS.iter().take_while(|&&set| set != self.set).count()
     }
 }
 
@@ -263,6 +382,119 @@ mod tests {
             let crc = [0x0E, 0x14, 0x13, 0x15, 0x0A, 0x1D, 0x17, 0x1A];
             assert_eq!(symbols[22..30], crc);
             assert_eq!(symbols[30..], [0x0D]);
+        }
+    }
+
+    #[test]
+    fn frame_keeps_what_it_was_written_from() {
+        let mut frame = Frame::silent();
+        assert_eq!(frame.origin(), None);
+        frame.write_message(Kind::Sop2Db, &[0x4F, 0x10, 0xC3, 0xA1]);
+        assert_eq!(frame.origin(), Some((4, &[0x4F, 0x10, 0xC3, 0xA1][..])));
+        frame.write_message(Kind::Sop, &[0x41, 0x00]);
+        assert_eq!(frame.clone().origin(), Some((0, &[0x41, 0x00][..])));
+        frame.write_hard_reset();
+        assert_eq!(frame.origin(), Some((5, &[][..])));
+        frame.clear();
+        assert_eq!(frame.origin(), None);
+    }
+
+    /// Numbers and octets of the whole frames, then why and where the walk stopped before the record's end.
+    type Walk = (Vec<(usize, Vec<u8>)>, Result<(), (Unread, usize)>);
+
+    fn walked(record: &[u8]) -> Walk {
+        let mut reader = Reader::new();
+        let mut frames = Vec::new();
+        for (place, &symbol) in record.iter().enumerate() {
+            match reader.take(symbol) {
+                Ok(None) => {}
+                Ok(Some((number, octets))) => frames.push((number, octets.to_vec())),
+                Err(unread) => return (frames, Err((unread, place))),
+            }
+        }
+        if reader.taken > 0 {
+            return (frames, Err((Unread::CutShort, record.len())));
+        }
+        (frames, Ok(()))
+    }
+
+    #[test]
+    fn reader_reads_what_the_writer_wrote() {
+        let mut record = Vec::new();
+        let mut written = Vec::new();
+        let mut frame = Frame::silent();
+        for length in 2..=30 {
+            let message: Vec<u8> = (0..length)
+                .map(|n: u8| n.wrapping_mul(length) ^ 0xA1)
+                .collect();
+            for (number, kind) in (0..5).map(|number| (number, Kind::numbered(number).unwrap())) {
+                frame.write_message(kind, &message);
+                record.extend_from_slice(frame.symbols());
+                let octets = [&message[..], &crc32(&message).to_le_bytes()].concat();
+                written.push((number as usize, octets));
+            }
+            record.extend_from_slice(&HARD_RESET);
+            written.push((5, Vec::new()));
+        }
+        assert_eq!(walked(&record), (written, Ok(())));
+    }
+
+    #[test]
+    fn reader_stops_at_the_first_symbol_that_fits_no_frame() {
+        for (record, place) in [
+            (&[0x00][..], 0),
+            (&[0x20], 0),
+            (&[0xFF], 0),
+            (&[0x0D], 0),
+            (&[0x18, 0x18, 0x11], 2),
+            (&[0x18, 0x07], 1),
+            (&[0x07, 0x07, 0x07, 0x18], 3),
+            (&[0x07, 0x07, 0x07, 0x19, 0x0D], 4),
+            (&[0x18, 0x19, 0x06, 0x06], 3),
+            (&[0x18, 0x18, 0x18, 0x11, 0x18], 4),
+            (&[0x18, 0x18, 0x18, 0x11, 0x0D], 4),
+            (&[0x18, 0x18, 0x18, 0x11, 0x1E, 0x00], 5),
+        ] {
+            let (_, stop) = walked(record);
+            assert_eq!(stop, Err((Unread::NoFrame, place)), "{record:02X?}");
+        }
+    }
+
+    #[test]
+    fn reader_knows_how_long_a_frame_may_be() {
+        for nibbles in 0..=69 {
+            let record = [&Kind::Sop.ordered_set()[..], &vec![0x1E; nibbles], &[EOP]].concat();
+            // Octets of 0 alone have a CRC that is not 0.
+            let stop = match nibbles {
+                69 => (Unread::NoFrame, 4 + 68),
+                12.. if nibbles % 2 == 0 => (Unread::WrongCrc, 4 + nibbles),
+                _ => (Unread::NoFrame, 4 + nibbles),
+            };
+            assert_eq!(walked(&record), (vec![], Err(stop)), "{nibbles}");
+        }
+    }
+
+    #[test]
+    fn reader_finds_every_cut_and_every_wrong_nibble() {
+        let mut frame = Frame::silent();
+        frame.write_message(Kind::Sop1, &[0x4F, 0x10, 0x6C, 0xC3, 0xA1, 0x21]);
+        let symbols = frame.symbols();
+        assert_eq!(walked(&[]), (vec![], Ok(())));
+        for length in 1..symbols.len() {
+            let stop = Err((Unread::CutShort, length));
+            assert_eq!(walked(&symbols[..length]), (vec![], stop));
+        }
+        for place in 4..symbols.len() - 1 {
+            for other in NIBBLE_SYMBOLS {
+                let mut changed = symbols.to_vec();
+                changed[place] = other;
+                let stop = walked(&changed).1;
+                if other == symbols[place] {
+                    assert_eq!(stop, Ok(()));
+                } else {
+                    assert_eq!(stop, Err((Unread::WrongCrc, symbols.len() - 1)));
+                }
+            }
         }
     }
 }

@@ -1,7 +1,8 @@
 //! The bench's text: lines in, events, lines out (01 'On the bench table', last part).
 
 use crate::device::{Device, Refusal};
-use crate::line::Frame;
+use crate::frames::put_frame;
+use crate::line::{crc32, Frame};
 use std::io::{self, Read, Write};
 
 /// The longest line in form, without its LF.
@@ -67,10 +68,18 @@ impl From<io::Error> for Stop {
     }
 }
 
-/// Plays the script of `input`; an error is one of `output`.
+/// Plays the script of `input` and answers each event; an error is one of `output`.
 pub fn run(input: impl Read, output: impl Write) -> io::Result<()> {
+    print(input, Answers::new(output, Printed::Answers))
+}
+
+/// Plays the script of `input` and lists the frames that left; an error is one of `output`.
+pub fn sent(input: impl Read, output: impl Write) -> io::Result<()> {
+    print(input, Answers::new(output, Printed::Sent))
+}
+
+fn print(input: impl Read, mut answers: Answers<impl Write>) -> io::Result<()> {
     let mut lines = Lines::new(input);
-    let mut answers = Answers::new(output);
     match play(&mut lines, &mut answers) {
         Ok(()) => {}
         Err(Stop::BadLine) => answers.bad_line(lines.number)?,
@@ -118,7 +127,7 @@ impl Bench {
                 self.device.hear_packet(kind, packet, &mut self.line).into()
             }
         };
-        answers.outcome(reply, self.device.int_n(), self.line.symbols())
+        answers.outcome(reply, self.device.int_n(), &self.line)
     }
 }
 
@@ -261,21 +270,43 @@ impl Text<'_> {
     }
 }
 
+/// Which lines a run prints: an answer to each event, or the frames that left.
+enum Printed {
+    Answers,
+    Sent,
+}
+
 /// The output, written out in large pieces.
 struct Answers<W> {
     output: W,
     text: Vec<u8>,
+    printed: Printed,
+    /// How many symbols left.
+    place: u64,
 }
 
 impl<W: Write> Answers<W> {
-    fn new(output: W) -> Self {
+    fn new(output: W, printed: Printed) -> Self {
         Answers {
             output,
             text: Vec::with_capacity(BUFFER),
+            printed,
+            place: 0,
         }
     }
 
-    fn outcome(&mut self, reply: Reply, int_n: bool, symbols: &[u8]) -> io::Result<()> {
+    fn outcome(&mut self, reply: Reply, int_n: bool, line: &Frame) -> io::Result<()> {
+        match self.printed {
+            Printed::Answers => self.answer(reply, int_n, line.symbols()),
+            Printed::Sent => self.sent(line),
+        }
+        if self.text.len() > BUFFER - LONGEST_ANSWER {
+            self.flush()?;
+        }
+        Ok(())
+    }
+
+    fn answer(&mut self, reply: Reply, int_n: bool, symbols: &[u8]) {
         let text = &mut self.text;
         match reply {
             Reply::Done => text.extend_from_slice(b"ok"),
@@ -301,14 +332,26 @@ impl<W: Write> Answers<W> {
             text.extend_from_slice(&[b' ', high, low]);
         }
         text.push(b'\n');
-        if text.len() > BUFFER - LONGEST_ANSWER {
-            self.flush()?;
+    }
+
+    /// Lists the frame as the device named it, and not as its symbols read.
+    fn sent(&mut self, line: &Frame) {
+        match line.origin() {
+            None => {}
+            Some((number, [])) => put_frame(&mut self.text, self.place, number, &[]),
+            Some((number, message)) => {
+                let octets = [message, &crc32(message).to_le_bytes()].concat();
+                put_frame(&mut self.text, self.place, number, &octets);
+            }
         }
-        Ok(())
+        self.place += line.symbols().len() as u64;
     }
 
     fn bad_line(&mut self, number: u32) -> io::Result<()> {
-        writeln!(self.text, "bad line {number}")
+        match self.printed {
+            Printed::Answers => writeln!(self.text, "bad line {number}"),
+            Printed::Sent => Ok(()),
+        }
     }
 
     fn flush(&mut self) -> io::Result<()> {
@@ -318,7 +361,15 @@ impl<W: Write> Answers<W> {
     }
 }
 
-const fn hex(octet: u8) -> [u8; 2] {
+/// The value of a capital hex digit.
+pub const fn hex_value(digit: u8) -> Option<u8> {
+    match HEX_VALUES[digit as usize] {
+        NO_DIGIT => None,
+        value => Some(value),
+    }
+}
+
+pub const fn hex(octet: u8) -> [u8; 2] {
     [
         HEX_DIGITS[(octet >> 4) as usize],
         HEX_DIGITS[(octet & 0xF) as usize],

@@ -2,44 +2,26 @@
 use fusb302::Device;
 use script::parse::Number;
 use script::parse::decimal;
-use script::print::line_fits;
+use script::print::LINE_ROOM;
 use script::print::print_bad;
+use stream::Input;
+use stream::Stream;
+use stream::begin;
+use stream::more;
+use stream::room;
+use stream::stepped;
 use turn::turn;
 ghost use mathlib.Core.Path.{_≡_};
-ghost use mathlib.Core.Bool.{true};
 ghost use Prim.Native.Nat.{_+_, _≤_, _<_};
 ghost use lib.ListN.{length};
 ghost use Rattle.io.specs.Counts.{Counts};
-ghost use Rattle.text.specs.Put.{hasRoom};
 ghost use Rattle.fusb302.specs.View.{Asks};
 ghost use Rattle.script.specs.Parse.{Few};
-ghost use Rattle.script.specs.Print.{lineRoom};
-ghost use Rattle.bench.specs.Ready.{Right, Ready};
-
-// What was read and not yet taken: the octets from at to end of the buffer.
-pub struct Input {
-    at: usize,
-    end: usize,
-}
+ghost use Rattle.stream.specs.Ready.{Right, Ready};
 
 pub struct Taken {
     input: Input,
     count: usize,
-}
-
-// The input with an octet to take; with none, by one read, at its end or where reading fails.
-fn more(input: Input, buf: &mut [u8; 65536]) -> Input
-    requires { ⌜ Right input ⌝ }
-    ensures { λ r. ⌜ Right r ⌝ }
-{
-    if input.at < input.end {
-        return input;
-    }
-    let got = libc::read(0, buf);
-    Input {
-        at: 0,
-        end: io::count(got, buf),
-    }
 }
 
 // The next line without its LF; 256 octets of one that is longer than 255. At the end of the input it is empty.
@@ -66,46 +48,20 @@ fn next_line(input: Input, buf: &mut [u8; 65536], line: &mut [u8]) -> Taken
     Taken { input: i, count: n }
 }
 
-// Between lines: what is to be taken, how much is printed and not yet written, and whether the run goes on.
-pub struct Stream {
-    input: Input,
-    used: usize,
-    on: bool,
-}
-
-// Writes out what is printed where a line of text may not fit behind it.
-fn room(mut s: Stream, out: &[u8]) -> Stream
-    requires { ⌜ Ready s × (length (now out) ≡ 65536) ⌝ }
-    ensures { λ r. ⌜ Ready r × (hasRoom lineRoom (now (out .entry)) (r .used) ≡ true) ⌝ }
-{
-    let used = s.used;
-    if line_fits(out.len(), used) {
-        return s;
-    }
-    s.on = io::write_all(1, &out[..used]);
-    s.used = 0;
-    s
-}
-
 // A count that is missing or out of form ends the run.
 fn bad(s: Stream, number: u32, out: &mut [u8]) -> Stream
     requires { ⌜ Ready s × (length (now out) ≡ 65536) ⌝ }
     ensures { λ r. ⌜ Ready r ⌝ }
 {
-    let mut r = room(s, out);
-    let used = r.used;
-    r.used = print_bad(number, out, used);
-    r.on = false;
-    r
+    let r = room(s, LINE_ROOM, out);
+    let input = r.input;
+    let used = print_bad(number, out, r.used);
+    stepped(r, input, used, true)
 }
 
 pub struct Ran {
     device: Device,
     stream: Stream,
-}
-
-fn goes_on(on: bool, ends: bool) -> bool {
-    if ends { false } else { on }
 }
 
 // One line of the setup, or of the events.
@@ -123,7 +79,7 @@ fn one(
     requires { ⌜ Asks device × Ready stream × (length (now line) ≡ 256) × (length (now out) ≡ 65536) ⌝ }
     ensures { λ r. ⌜ Asks (r .device) × Ready (r .stream) ⌝ }
 {
-    let ready = room(stream, out);
+    let ready = room(stream, LINE_ROOM, out);
     let before = ready.input;
     let taken = next_line(before, buf, line);
     let input = taken.input;
@@ -140,11 +96,7 @@ fn one(
         used,
     );
     let device = turned.device;
-    let stream = Stream {
-        input,
-        used: turned.at,
-        on: goes_on(ready.on, turned.ends),
-    };
+    let stream = stepped(ready, input, turned.at, turned.ends);
     Ran { device, stream }
 }
 
@@ -277,11 +229,7 @@ fn run(
     requires { ⌜ (length (now line) ≡ 256) × (length (now out) ≡ 65536) ⌝ }
     ensures { λ r. ⌜ r ≤ 65536 ⌝ }
 {
-    let start = Stream {
-        input: Input { at: 0, end: 0 },
-        used: 0,
-        on: true,
-    };
+    let start = begin();
     let set = part(
         Device::power_up(),
         start,

@@ -53,7 +53,7 @@ same-walk h e bs gs = (to-cursor, to-reader h e bs gs)
 
 -- ---- 4. With room
 
-with-room : (line : List ℕ) (at : ℕ) (b : List ℕ) (r : Answer) (a : List ℕ) → octetRoom ≤ length b → Reads line at b r a
+pub with-room : (line : List ℕ) (at : ℕ) (b : List ℕ) (r : Answer) (a : List ℕ) → octetRoom ≤ length b → Reads line at b r a
     → Tells at (first (drop at line)) b r a
 with-room line at b r a h p =
     let t = le-ltb (length b) octetRoom h in

@@ -6,7 +6,7 @@ use Prim.Native.Nat.{ℕ}
 use Rattle.script.specs.declared.parse.Number.{Number}
 use Rattle.script.specs.declared.parse.Number.the-variants.{Is, Not}
 use Rattle.script.specs.Parse.{counted}
-use Rattle.script.specs.Theorems.{OneCount, OneSetup, OneParsing, OneRoom}
+use Rattle.script.specs.Theorems.{OneCount, OneSetup, OneParsing}
 
 -- the number that says a count
 numberOf : Option ℕ → Number
@@ -26,6 +26,3 @@ one-setup l r s p q = p ∙ sym q
 
 pub one-parsing : OneParsing
 one-parsing e before r s a b p q = (p .says ∙ sym (q .says), p .leaves ∙ sym (q .leaves))
-
-pub one-room : OneRoom
-one-room octets at r s p q = p ∙ sym q

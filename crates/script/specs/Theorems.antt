@@ -1,16 +1,13 @@
 -- No second outcome; proofs/Outcomes.antt has the proof of each statement.
 -- Assumes nothing.
 use mathlib.Core.Path.{_≡_}
-use mathlib.Core.Bool.{Bool}
 use mathlib.Core.List.{List}
 use mathlib.Core.Option.{Option}
-use Prim.Native.Nat.{ℕ, _+_}
-use lib.Dec.{leb}
+use Prim.Native.Nat.{ℕ}
 use Rattle.machine.specs.Events.{Event}
 use Rattle.script.specs.declared.parse.Line.{Line}
 use Rattle.script.specs.declared.parse.Number.{Number}
 use Rattle.script.specs.Parse.{countOf, setupOf, counted, lineOf, Parses}
-use Rattle.script.specs.Print.{lineRoom}
 
 abbrev pub OneCount : Type 0
 OneCount = (l : List ℕ) (r s : Number) → counted r ≡ countOf l → counted s ≡ countOf l → r ≡ s
@@ -21,6 +18,3 @@ OneSetup = (l : List ℕ) (r s : Line) → r ≡ lineOf (setupOf l) → s ≡ li
 abbrev pub OneParsing : Type 0
 OneParsing =
     (e : Option Event) (before : List ℕ) (r s : Line) (a b : List ℕ) → Parses e before r a → Parses e before s b → (r ≡ s) × (a ≡ b)
-
-abbrev pub OneRoom : Type 0
-OneRoom = (octets at : ℕ) (r s : Bool) → r ≡ leb (at + lineRoom) octets → s ≡ leb (at + lineRoom) octets → r ≡ s

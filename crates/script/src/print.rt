@@ -17,7 +17,7 @@ ghost use Rattle.fusb302.specs.Serves.{replied};
 ghost use Rattle.script.specs.Print.{replyText, levelOf, outcomeText, badText, lineRoom};
 
 // Room for any line: `no255`, a space and the level, 73 symbols, LF.
-const LINE_ROOM: usize = 227;
+pub const LINE_ROOM: usize = 227;
 
 // The most symbols that an event sends (01, 'Numbers of no', 12).
 const FRAME_ROOM: usize = 73;
@@ -66,13 +66,6 @@ fn put_bad(line: u32, out: &mut [u8], at: usize) -> usize
     put(b'\n', out, b)
 }
 
-// Whether any line has room behind `at`, in so many octets.
-pub fn line_fits(octets: usize, at: usize) -> bool
-    ensures { λ r. ⌜ r ≡ leb (at + lineRoom) octets ⌝ }
-{
-    has_room(LINE_ROOM, octets, at)
-}
-
 // Prints what came of a write or an event; nothing without room, nor with more symbols than any event sends.
 pub fn print_outcome(reply: Reply, high: bool, symbols: &[u8], out: &mut [u8], at: usize) -> usize
     ensures { λ r. ⌜ Prints (leb (length (now (symbols .entry))) frameRoom && hasRoom lineRoom (now (out .entry)) at) (now (out .entry)) at (outcomeText (replied reply) high (now (symbols .entry))) r (now (out .exit)) ⌝ }
@@ -80,7 +73,7 @@ pub fn print_outcome(reply: Reply, high: bool, symbols: &[u8], out: &mut [u8], a
     if symbols.len() > FRAME_ROOM {
         return at;
     }
-    if line_fits(out.len(), at) {
+    if has_room(LINE_ROOM, out.len(), at) {
         return put_outcome(reply, high, symbols, out, at);
     }
     at
@@ -90,7 +83,7 @@ pub fn print_outcome(reply: Reply, high: bool, symbols: &[u8], out: &mut [u8], a
 pub fn print_bad(line: u32, out: &mut [u8], at: usize) -> usize
     ensures { λ r. ⌜ Prints (hasRoom lineRoom (now (out .entry)) at) (now (out .entry)) at (badText line) r (now (out .exit)) ⌝ }
 {
-    if line_fits(out.len(), at) {
+    if has_room(LINE_ROOM, out.len(), at) {
         return put_bad(line, out, at);
     }
     at

@@ -19,7 +19,7 @@ sets-append : (l : List ℕ) (i : ℕ) (vs ws : List ℕ) → sets (sets l i vs)
 sets-append l i [] ws = rw add-zero refl
 sets-append l i (v ∷ vs) ws = rw (add-suc, ← suc-add) (sets-append (set l i v) (suc i) vs ws)
 
-nothing : (b : List ℕ) (at : ℕ) → Puts b at [] at b
+pub nothing : (b : List ℕ) (at : ℕ) → Puts b at [] at b
 nothing b at = record { next = omega arith; stands = refl }
 
 pub then : {b m a t u : List ℕ} {at r q : ℕ} → Puts b at t r m → Puts m r u q a → Puts b at (t ++ u) q a

@@ -5,9 +5,10 @@ use fusb302::Reply;
 use script::parse::Line;
 use script::parse::parse_event;
 use script::parse::parse_setup;
-use script::print::line_fits;
+use script::print::LINE_ROOM;
 use script::print::print_bad;
 use script::print::print_outcome;
+use text::put::has_room;
 ghost use mathlib.Core.Path.{_≡_};
 ghost use mathlib.Core.Bool.{true};
 ghost use Prim.Native.Nat.{_≤_};
@@ -114,7 +115,7 @@ pub fn turn(
     requires { ⌜ Asks device ⌝ }
     ensures { λ r. ⌜ Takes (hasRoom lineRoom (now (out .entry)) at) device (meantBy setup (now (line .entry))) number (record { out = now (out .entry); octets = now (octets .entry); symbols = now (symbols .entry) }) at r (record { out = now (out .exit); octets = now (octets .exit); symbols = now (symbols .exit) }) ⌝ }
 {
-    if line_fits(out.len(), at) {
+    if has_room(LINE_ROOM, out.len(), at) {
         let meant = parsed(setup, line, octets);
         return act(device, meant, number, octets, symbols, out, at);
     }

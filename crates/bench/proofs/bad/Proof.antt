@@ -1,6 +1,8 @@
 -- What is printed lies in the buffer.
-use borrow.Author.Needs.{needs}
+use mathlib.Core.Path.{sym, subst}
 use native.Mathlib.Omega.{arith}
+use borrow.Author.Needs.{needs}
+use Rattle.stream.specs.Ready.{Ready}
 use Rattle.turn.proofs.Turning.{bad-within}
 use Rattle.bench.proofs.bad.Statement.{statement}
 use Rattle.bench.proofs.bad.Tie as tie
@@ -11,15 +13,20 @@ room-requires c κs = search needs
 print-bad-requires : tie.Need-print-bad-requires
 print-bad-requires c κs = search needs
 
+stepped-requires : tie.Need-stepped-requires
+stepped-requires c κs = search needs
+
 same-length : tie.Need-same-length
 same-length c = search needs
 
 returns : tie.Need-returns
 returns c =
-    let long = c .before .before .before .before .before .before .before .pre .1 in
-    let used = c .before .before .before .before .room .ensures .0 .output in
-    let fits = bad-within (c .before .before .before .before .before .before .before .args .out .now) (c .before .before .before .before .room .result .used) _ _ _ (omega (arith, long, used)) (c .before .before .print-bad .ensures) in
-    record { input = c .before .before .before .before .room .ensures .0 .input; output = omega (arith, fits, long) }
+    let print = c .before .before .before in
+    let roomed = print .before .before .before in
+    let begun = roomed .before .before .before in
+    let ready = roomed .room .ensures .0 in
+    let fits = bad-within (begun .args .out .now) (roomed .room .result .used) _ _ _ (omega (arith, begun .pre .1, ready .output)) (print .print-bad .ensures) in
+    subst Ready (sym (c .stepped .ensures)) (record { input = ready .input; output = omega (arith, fits, begun .pre .1) })
 
 pub bad-spec : {M : Type 1} → statement M
-bad-spec = tie.close (tie.spec room-requires print-bad-requires same-length returns)
+bad-spec = tie.close (tie.spec room-requires print-bad-requires stepped-requires same-length returns)

@@ -4,7 +4,7 @@ use Prim.Native.Nat.{_-_, _≤_}
 use borrow.Author.Needs.{needs}
 use lib.ListN.{length}
 use Rattle.fusb302.specs.View.{Asks}
-use Rattle.bench.specs.Ready.{Ready}
+use Rattle.stream.specs.Ready.{Ready}
 use Rattle.bench.proofs.lines.Statement.{statement}
 use Rattle.bench.proofs.lines.Tie as tie
 

@@ -5,7 +5,7 @@ use native.Mathlib.Omega.{arith}
 use borrow.Author.Needs.{needs}
 use lib.ListN.{length}
 use lib.Seq.{length-take-le}
-use Rattle.bench.specs.Ready.{Right}
+use Rattle.stream.specs.Ready.{Right}
 use Rattle.bench.proofs.next_line.Statement.{statement}
 use Rattle.bench.proofs.next_line.Tie as tie
 

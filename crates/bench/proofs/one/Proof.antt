@@ -1,6 +1,8 @@
 -- The device can be asked again, and what was printed lies in the buffer.
-use borrow.Author.Needs.{needs}
+use mathlib.Core.Path.{sym, subst}
 use native.Mathlib.Omega.{arith}
+use borrow.Author.Needs.{needs}
+use Rattle.stream.specs.Ready.{Ready}
 use Rattle.turn.proofs.Turning.{turn-asks, turn-within}
 use Rattle.bench.proofs.one.Statement.{statement}
 use Rattle.bench.proofs.one.Tie as tie
@@ -20,8 +22,8 @@ slice-aggregate-turn c = search needs
 turn-requires : tie.Need-turn-requires
 turn-requires c κs = search needs
 
-goes-on-requires : tie.Need-goes-on-requires
-goes-on-requires c κs = search needs
+stepped-requires : tie.Need-stepped-requires
+stepped-requires c κs = search needs
 
 same-length : tie.Need-same-length
 same-length c = search needs
@@ -31,10 +33,14 @@ same-length-2 c = search needs
 
 returns : tie.Need-returns
 returns c =
-    let long = c .before .before .before .before .before .before .before .before .before .before .before .before .before .before .before .before .before .before .before .before .pre .3 in
-    let used = c .before .before .before .before .before .before .before .before .before .before .before .before .before .before .before .before .room .ensures .0 .output in
-    let fits = turn-within _ _ _ _ _ _ _ _ (omega (arith, long, used)) (c .before .before .before .before .turn .ensures) in
-    (turn-asks _ _ _ _ _ _ _ _ (c .before .before .before .before .before .before .before .before .before .before .before .before .before .before .before .before .before .before .before .before .pre .0) (c .before .before .before .before .turn .ensures), record { input = c .before .before .before .before .before .before .before .before .before .before .before .before .next-line .ensures .0; output = omega (arith, fits, long) })
+    let took = c .before .before .before .before in
+    let line = took .before .before .before .before .before .before .before .before in
+    let roomed = line .before .before .before .before in
+    let begun = roomed .before .before .before .before in
+    let fits = turn-within _ _ _ _ _ _ _ _ (omega (arith, begun .pre .3, roomed .room .ensures .0 .output)) (took .turn .ensures) in (
+      turn-asks _ _ _ _ _ _ _ _ (begun .pre .0) (took .turn .ensures),
+      subst Ready (sym (c .stepped .ensures)) (record { input = line .next-line .ensures .0; output = omega (arith, fits, begun .pre .3) }),
+    )
 
 pub one-spec : {M : Type 1} → statement M
 one-spec =
@@ -45,7 +51,7 @@ one-spec =
     slice-reshare-prefix-turn
     slice-aggregate-turn
     turn-requires
-    goes-on-requires
+    stepped-requires
     same-length
     same-length-2
     returns)

@@ -1,21 +1,34 @@
 -- The setup is followed by the events where it ended well.
-use borrow.Author.Needs.{needs}
+use mathlib.Core.Path.{sym, subst}
 use native.Mathlib.Omega.{arith}
+use borrow.Author.Needs.{needs}
+use Rattle.stream.specs.Ready.{Ready}
 use Rattle.bench.proofs.run.Statement.{statement}
 use Rattle.bench.proofs.run.Tie as tie
+
+begin-requires : tie.Need-begin-requires
+begin-requires c κs = search needs
 
 power-up-requires : tie.Need-power-up-requires
 power-up-requires c κs = search needs
 
 part-requires : tie.Need-part-requires
-part-requires c κs = search needs
+part-requires c κs =
+    let started = c .before .before .before .before .before .before in
+    let begun = started .before .before .before in
+    (search needs, subst Ready (sym (started .begin .ensures)) (record { input = (omega arith, omega arith); output = omega arith }), omega arith, search (needs, begun .pre .0), search (needs, begun .pre .1))
 
 part-requires-2 : tie.Need-part-requires-2
 part-requires-2 c κs =
-    (c .before .before .before .before .before .before .before .before .before .before .before .before .part .ensures .0, c .before .before .before .before .before .before .before .before .before .before .before .before .part .ensures .1, omega (arith, c .before .before .before .before .before .before .before .before .before .before .before .before .part .ensures .2), search (needs, c .before .before .before .before .before .before .before .before .before .before .before .before .before .before .before .before .before .before .before .before .before .pre .0), search (needs, c .before .before .before .before .before .before .before .before .before .before .before .before .before .before .before .before .before .before .before .before .before .pre .1))
+    let set = c .before .before .before .before .before .before .before .before .before .before .before .before in
+    let begun = set .before .before .before .before .before .before .before .before .before .before in
+    (set .part .ensures .0, set .part .ensures .1, omega (arith, set .part .ensures .2), search (needs, begun .pre .0, set .part .kept .1 .1 .1 .1 .1 .0), search (needs, begun .pre .1, set .part .kept .1 .1 .1 .1 .1 .1 .1 .1 .0))
 
 same-length : tie.Need-same-length
-same-length c = search (needs, c .before .before .before .before .part2 .kept .1 .1 .1 .1 .1 .0, c .before .before .before .before .before .before .before .before .before .before .before .before .before .before .before .before .before .part .kept .1 .1 .1 .1 .1 .0)
+same-length c =
+    let last = c .before .before .before .before in
+    let set = last .before .before .before .before .before .before .before .before .before .before .before .before .before in
+    search (needs, last .part2 .kept .1 .1 .1 .1 .1 .0, set .part .kept .1 .1 .1 .1 .1 .0)
 
 same-length-2 : tie.Need-same-length-2
 same-length-2 c = search needs
@@ -36,6 +49,7 @@ pub run-spec : {M : Type 1} → statement M
 run-spec =
     tie.close
     (tie.spec
+    begin-requires
     power-up-requires
     part-requires
     part-requires-2

@@ -9,14 +9,14 @@ use Rattle.text.proofs.Texts.{printed, not-printed}
 use Rattle.script.proofs.print.print_bad.Statement.{statement}
 use Rattle.script.proofs.print.print_bad.Tie as tie
 
-line-fits-requires : tie.Need-line-fits-requires
-line-fits-requires c κs = search needs
+has-room-requires : tie.Need-has-room-requires
+has-room-requires c κs = search needs
 
 put-bad-requires : tie.Need-put-bad-requires
 put-bad-requires c κs =
     let test = c .before in
     let begun = test .before .before .before in
-    omega (arith, leb-true (begun .args .at + 227) (length (begun .args .out .now)) (sym (test .before .line-fits .ensures) ∙ test .if1 .taken))
+    omega (arith, leb-true (begun .args .at + 227) (length (begun .args .out .now)) (sym (test .before .has-room .ensures) ∙ test .if1 .taken))
 
 same-length : tie.Need-same-length
 same-length c = search needs
@@ -25,12 +25,12 @@ returns : tie.Need-returns
 returns c =
     let put = c .before .before in
     let test = put .before .before in
-    printed (sym (test .before .line-fits .ensures) ∙ test .if1 .taken) (put .put-bad .ensures)
+    printed (sym (test .before .has-room .ensures) ∙ test .if1 .taken) (put .put-bad .ensures)
 
 returns-2 : tie.Need-returns-2
-returns-2 c = not-printed _ _ _ (sym (c .before .line-fits .ensures) ∙ c .if1 .left)
+returns-2 c = not-printed _ _ _ (sym (c .before .has-room .ensures) ∙ c .if1 .left)
 
 pub print-bad-spec : {M : Type 1} → statement M
 print-bad-spec =
     tie.close
-    (tie.spec line-fits-requires put-bad-requires same-length returns returns-2)
+    (tie.spec has-room-requires put-bad-requires same-length returns returns-2)

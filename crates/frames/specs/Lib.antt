@@ -1,0 +1,2 @@
+-- What holds of a listing between characters.
+pub mod Holds

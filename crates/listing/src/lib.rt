@@ -1,0 +1,158 @@
+// What is on a line: the text of a record, character by character, to a line of text for each frame in it.
+use line::read::Answer;
+use line::read::Cursor;
+use line::read::read_frame;
+use text::put::has_room;
+
+mod form;
+mod print;
+
+use crate::form::Scan;
+use crate::form::after;
+use crate::form::may_end;
+use crate::print::put_bad;
+use crate::print::put_frame;
+use crate::print::put_no;
+ghost use mathlib.Core.Path.{_≡_};
+ghost use mathlib.Core.Bool.{true};
+ghost use Prim.Native.Nat.{_+_, _≤_, _<_, _^_};
+ghost use lib.ListN.{length};
+ghost use Rattle.text.specs.Put.{hasRoom, Puts, Prints};
+ghost use Rattle.listing.specs.Lines.{lineRoom};
+ghost use Rattle.listing.specs.declared.form.Scan.the-variants.{Symbol};
+ghost use Rattle.listing.specs.Steps.{start, endText};
+ghost use Rattle.listing.specs.Promises.{listingOf, stopped, Right, Goes, Takes};
+
+// Room for any line: a place, a space and the kind, 34 octets, LF.
+pub const LINE_ROOM: usize = 125;
+
+// What is held of an input: its form so far, the place of the symbols that no frame has yet, and how many these are. They stand at the beginning of the window.
+pub struct Listing {
+    scan: Scan,
+    before: usize,
+    count: usize,
+}
+
+// After a character: the listing, whether it ends there, and the place behind what was printed.
+pub struct Fed {
+    pub listing: Listing,
+    pub ends: bool,
+    pub at: usize,
+}
+
+pub fn begin() -> Listing
+    ensures { λ r. ⌜ r ≡ listingOf start ⌝ }
+{
+    Listing {
+        scan: Scan::Begin,
+        before: 0,
+        count: 0,
+    }
+}
+
+fn stop(listing: Listing, at: usize) -> Fed
+    ensures { λ r. ⌜ r ≡ stopped listing at ⌝ }
+{
+    Fed {
+        listing,
+        ends: true,
+        at,
+    }
+}
+
+// A symbol: with those before it a frame, a part of one, or neither.
+fn symbol(listing: Listing, v: u8, window: &mut [u8], out: &mut [u8], at: usize) -> Fed
+    requires { ⌜ Right listing × (length (now window) ≡ 73) × (hasRoom lineRoom (now out) at ≡ true) ⌝ }
+    ensures { λ r. ⌜ Goes listing (Symbol v) (now (window .entry)) (now (out .entry)) at r (now (window .exit)) (now (out .exit)) ⌝ }
+{
+    let place = listing.before;
+    let n = listing.count;
+    window[n] = v;
+    let mut octets = [0u8; 34];
+    match read_frame(&window[..n + 1], Cursor { at: 0 }, &mut octets) {
+        Answer::Frame {
+            kind,
+            count,
+            next: _,
+        } => Fed {
+            listing: Listing {
+                scan: Scan::Symbol(v),
+                before: place + n + 1,
+                count: 0,
+            },
+            ends: false,
+            at: put_frame(place, kind, &octets[..count], out, at),
+        },
+        Answer::TooShort(_) => Fed {
+            listing: Listing {
+                scan: Scan::Symbol(v),
+                before: place,
+                count: n + 1,
+            },
+            ends: false,
+            at,
+        },
+        Answer::NoFrame(p) => stop(listing, put_no(13, place + p, out, at)),
+        Answer::WrongCrc(p) => stop(listing, put_no(15, place + p, out, at)),
+        Answer::SmallBuffer => stop(listing, at),
+    }
+}
+
+// By what the text ends with now.
+fn go(listing: Listing, to: Scan, window: &mut [u8], out: &mut [u8], at: usize) -> Fed
+    requires { ⌜ Right listing × (length (now window) ≡ 73) × (hasRoom lineRoom (now out) at ≡ true) ⌝ }
+    ensures { λ r. ⌜ Goes listing to (now (window .entry)) (now (out .entry)) at r (now (window .exit)) (now (out .exit)) ⌝ }
+{
+    let place = listing.before;
+    let n = listing.count;
+    match to {
+        Scan::Symbol(v) => symbol(listing, v, window, out, at),
+        Scan::Broken => stop(listing, put_bad(place + n + 1, out, at)),
+        _ => Fed {
+            listing: Listing {
+                scan: to,
+                before: place,
+                count: n,
+            },
+            ends: false,
+            at,
+        },
+    }
+}
+
+// Takes a character. Where a line of text need not fit behind `at`, it takes none and the listing ends.
+pub fn feed(listing: Listing, c: u8, window: &mut [u8; 73], out: &mut [u8], at: usize) -> Fed
+    requires { ⌜ Right listing ⌝ }
+    ensures { λ r. ⌜ Takes (hasRoom lineRoom (now (out .entry)) at) listing c (now (window .entry)) (now (out .entry)) at r (now (window .exit)) (now (out .exit)) ⌝ }
+{
+    if has_room(LINE_ROOM, out.len(), at) {
+        let scan = listing.scan;
+        return go(listing, after(scan, c), window, out, at);
+    }
+    stop(listing, at)
+}
+
+fn put_end(scan: Scan, place: usize, count: usize, out: &mut [u8], at: usize) -> usize
+    requires { ⌜ (place + count + 1 < 2 ^ 64) × (at + lineRoom ≤ length (now out)) ⌝ }
+    ensures { λ r. ⌜ Puts (now (out .entry)) at (endText scan place count) r (now (out .exit)) ⌝ }
+{
+    if may_end(scan) {
+        if count == 0 {
+            return at;
+        }
+        return put_no(14, place + count, out, at);
+    }
+    put_bad(place + count + 1, out, at)
+}
+
+// The input ends: prints what is then said, and where a line need not fit nothing.
+pub fn finish(listing: Listing, out: &mut [u8], at: usize) -> usize
+    requires { ⌜ Right listing ⌝ }
+    ensures { λ r. ⌜ Prints (hasRoom lineRoom (now (out .entry)) at) (now (out .entry)) at (endText (listing .scan) (listing .before) (listing .count)) r (now (out .exit)) ⌝ }
+{
+    if has_room(LINE_ROOM, out.len(), at) {
+        let scan = listing.scan;
+        return put_end(scan, listing.before, listing.count, out, at);
+    }
+    at
+}
