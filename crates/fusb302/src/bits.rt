@@ -1,4 +1,4 @@
-// Registers' bits by their names in data sheet 004, and the tests on them.
+// Registers and their bits by their names in data sheet 004, and the tests on them.
 ghost use mathlib.Core.Path.{_≡_};
 ghost use Prim.Native.Nat.{_-_, _≤_};
 ghost use lib.ListN.{getD};
@@ -74,6 +74,21 @@ pub(crate) const I_GCRCSENT: u8 = 0x01;
 pub(crate) const I_CRC_CHK: u8 = 0x10;
 
 pub(crate) const I_ALERT: u8 = 0x08;
+
+// Registers by their place among the cells: address less 2.
+pub(crate) const SWITCHES1: usize = 1;
+
+pub(crate) const CONTROL0: usize = 4;
+
+pub(crate) const CONTROL1: usize = 5;
+
+pub(crate) const CONTROL3: usize = 7;
+
+pub(crate) const MASK: usize = 8;
+
+pub(crate) const MASKA: usize = 12;
+
+pub(crate) const MASKB: usize = 13;
 
 // What stands at an address (01, 'Registers').
 pub(crate) enum Place {

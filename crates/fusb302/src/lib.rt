@@ -3,7 +3,12 @@ mod bits;
 pub mod device;
 mod fifo;
 mod header;
+mod packets;
 mod queue;
+mod reads;
+mod requests;
+mod send;
+mod writes;
 
 pub use device::Device;
 pub use device::Outcome;

@@ -2,8 +2,8 @@
 use mathlib.Core.Path.{_≡_}
 use native.Mathlib.Omega.{arith}
 use Rattle.line.proofs.Keys.{past}
-use Rattle.fusb302.proofs.device.rx_token.Statement.{statement}
-use Rattle.fusb302.proofs.device.rx_token.Tie as tie
+use Rattle.fusb302.proofs.packets.rx_token.Statement.{statement}
+use Rattle.fusb302.proofs.packets.rx_token.Tie as tie
 
 returns : tie.Need-returns
 returns c = rw (c .match .keys1)

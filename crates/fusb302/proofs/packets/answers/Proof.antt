@@ -3,8 +3,8 @@ use borrow.Author.Needs.{needs}
 use mathlib.Core.Path.{refl, ap}
 use borrow.Author.Tests.{eq-eqb, ne-eqb}
 use lib.Dec.{eqb}
-use Rattle.fusb302.proofs.device.answers.Statement.{statement}
-use Rattle.fusb302.proofs.device.answers.Tie as tie
+use Rattle.fusb302.proofs.packets.answers.Statement.{statement}
+use Rattle.fusb302.proofs.packets.answers.Tie as tie
 
 message-id-requires : tie.Need-message-id-requires
 message-id-requires c κs = search needs

@@ -3,8 +3,8 @@ use borrow.Author.Needs.{needs}
 use native.Mathlib.Omega.{arith}
 use Rattle.machine.proofs.Spelling.{spelt-whole}
 use Rattle.fusb302.proofs.Sending.{unspelt, in-array, spelt-in-array}
-use Rattle.fusb302.proofs.device.put_message.Statement.{statement}
-use Rattle.fusb302.proofs.device.put_message.Tie as tie
+use Rattle.fusb302.proofs.send.put_message.Statement.{statement}
+use Rattle.fusb302.proofs.send.put_message.Tie as tie
 
 message-requires : tie.Need-message-requires
 message-requires c κs = search needs

@@ -1,8 +1,8 @@
 -- The octets are the header, and they make a whole frame.
 use borrow.Author.Needs.{needs}
 use Rattle.fusb302.proofs.Sending.{control-whole}
-use Rattle.fusb302.proofs.device.put_control.Statement.{statement}
-use Rattle.fusb302.proofs.device.put_control.Tie as tie
+use Rattle.fusb302.proofs.send.put_control.Statement.{statement}
+use Rattle.fusb302.proofs.send.put_control.Tie as tie
 
 control-requires : tie.Need-control-requires
 control-requires c κs = search needs

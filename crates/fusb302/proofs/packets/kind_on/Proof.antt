@@ -3,8 +3,8 @@ use borrow.Author.Needs.{needs}
 use mathlib.Core.Path.{_≡_}
 use native.Mathlib.Omega.{arith}
 use Rattle.line.proofs.Keys.{past}
-use Rattle.fusb302.proofs.device.kind_on.Statement.{statement}
-use Rattle.fusb302.proofs.device.kind_on.Tie as tie
+use Rattle.fusb302.proofs.packets.kind_on.Statement.{statement}
+use Rattle.fusb302.proofs.packets.kind_on.Tie as tie
 
 has-requires : tie.Need-has-requires
 has-requires c κs = search needs

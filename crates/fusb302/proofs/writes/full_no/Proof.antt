@@ -1,8 +1,8 @@
 -- The test is that of the contract.
 use mathlib.Core.Path.{refl}
 use borrow.Author.Tests.{le-leb, lt-leb}
-use Rattle.fusb302.proofs.device.full_no.Statement.{statement}
-use Rattle.fusb302.proofs.device.full_no.Tie as tie
+use Rattle.fusb302.proofs.writes.full_no.Statement.{statement}
+use Rattle.fusb302.proofs.writes.full_no.Tie as tie
 
 returns : tie.Need-returns
 returns c = rw (lt-leb _ _ (c .if1 .taken)) refl

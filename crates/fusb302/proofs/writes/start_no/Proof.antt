@@ -2,8 +2,8 @@
 use borrow.Author.Needs.{needs}
 use mathlib.Core.Path.{refl, sym, _∙_}
 use Rattle.fusb302.proofs.Refusing.{is-spelt, not-spelt}
-use Rattle.fusb302.proofs.device.start_no.Statement.{statement}
-use Rattle.fusb302.proofs.device.start_no.Tie as tie
+use Rattle.fusb302.proofs.writes.start_no.Statement.{statement}
+use Rattle.fusb302.proofs.writes.start_no.Tie as tie
 
 message-requires : tie.Need-message-requires
 message-requires c κs = search needs

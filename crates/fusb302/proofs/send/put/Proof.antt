@@ -3,8 +3,8 @@ use borrow.Author.Needs.{needs}
 use native.Mathlib.Omega.{arith}
 use mathlib.Core.Logic.{⊎-elim}
 use Rattle.fusb302.proofs.Sending.{put-said, put-sent}
-use Rattle.fusb302.proofs.device.put.Statement.{statement}
-use Rattle.fusb302.proofs.device.put.Tie as tie
+use Rattle.fusb302.proofs.send.put.Statement.{statement}
+use Rattle.fusb302.proofs.send.put.Tie as tie
 
 write-frame-requires : tie.Need-write-frame-requires
 write-frame-requires c κs = search needs

@@ -1,8 +1,8 @@
 -- The tests are those of the contract, in its order.
 use mathlib.Core.Path.{refl}
 use borrow.Author.Tests.{eq-eqb, ne-eqb}
-use Rattle.fusb302.proofs.device.is_start.Statement.{statement}
-use Rattle.fusb302.proofs.device.is_start.Tie as tie
+use Rattle.fusb302.proofs.writes.is_start.Statement.{statement}
+use Rattle.fusb302.proofs.writes.is_start.Tie as tie
 
 returns : tie.Need-returns
 returns c = rw (eq-eqb _ _ (c .if1 .taken)) refl
