@@ -1,7 +1,7 @@
 //! What is on the line: a record of symbols in, a line for each frame of it out.
 
 use crate::line::{Reader, Unread};
-use crate::script::{hex, hex_value};
+use crate::text::{hex_value, put_frame};
 use std::io::{self, BufReader, Bytes, Read, Write};
 
 /// Lists the frames of the record `input`; an error is one of `output`.
@@ -75,19 +75,6 @@ impl<R: Read> Record<R> {
     fn character(&mut self) -> Option<u8> {
         self.characters.next()?.ok()
     }
-}
-
-/// Puts down a frame by its place, the number of its kind and its octets, none for a Hard Reset.
-pub fn put_frame(text: &mut Vec<u8>, place: u64, number: usize, octets: &[u8]) {
-    text.extend_from_slice(format!("{place} {number}").as_bytes());
-    if octets.is_empty() {
-        text.extend_from_slice(b" -");
-    }
-    for &octet in octets {
-        let [high, low] = hex(octet);
-        text.extend_from_slice(&[b' ', high, low]);
-    }
-    text.push(b'\n');
 }
 
 #[cfg(test)]

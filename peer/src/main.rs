@@ -6,6 +6,7 @@ mod device;
 mod frames;
 mod line;
 mod script;
+mod text;
 
 use std::process::ExitCode;
 use std::{env, io};

@@ -1,8 +1,8 @@
 //! The bench's text: lines in, events, lines out (01 'On the bench table', last part).
 
 use crate::device::{Device, Refusal};
-use crate::frames::put_frame;
 use crate::line::{crc32, Frame};
+use crate::text::{hex, octet_value, put_frame, put_octets};
 use std::io::{self, Read, Write};
 
 /// The longest line in form, without its LF.
@@ -16,19 +16,6 @@ const MOST_DIGITS: usize = 7;
 const BUFFER: usize = 1 << 16;
 /// The longest answer, LF included; the output leaves before less room is left.
 const LONGEST_ANSWER: usize = "no11 1\n".len() + Frame::LONGEST * " 00".len();
-
-const HEX_DIGITS: &[u8; 16] = b"0123456789ABCDEF";
-/// All bits set, so that it survives an "or" with any digit's value.
-const NO_DIGIT: u8 = 0xFF;
-const HEX_VALUES: [u8; 256] = {
-    let mut values = [NO_DIGIT; 256];
-    let mut value = 0;
-    while value < 16 {
-        values[HEX_DIGITS[value] as usize] = value as u8;
-        value += 1;
-    }
-    values
-};
 
 enum Event<'a> {
     Write { address: u8, value: u8 },
@@ -208,12 +195,8 @@ impl Text<'_> {
 
     fn octet(&mut self) -> Option<u8> {
         let (&[high, low], rest) = self.rest.split_first_chunk()?;
-        let (high, low) = (HEX_VALUES[usize::from(high)], HEX_VALUES[usize::from(low)]);
-        if high | low == NO_DIGIT {
-            return None;
-        }
         self.rest = rest;
-        Some(high << 4 | low)
+        octet_value(high, low)
     }
 
     fn decimal(&mut self) -> Option<u32> {
@@ -324,13 +307,7 @@ impl<W: Write> Answers<W> {
             }
         }
         text.extend_from_slice(if int_n { b" 1" } else { b" 0" });
-        if symbols.is_empty() {
-            text.extend_from_slice(b" -");
-        }
-        for &symbol in symbols {
-            let [high, low] = hex(symbol);
-            text.extend_from_slice(&[b' ', high, low]);
-        }
+        put_octets(text, symbols);
         text.push(b'\n');
     }
 
@@ -359,21 +336,6 @@ impl<W: Write> Answers<W> {
         self.text.clear();
         self.output.flush()
     }
-}
-
-/// The value of a capital hex digit.
-pub const fn hex_value(digit: u8) -> Option<u8> {
-    match HEX_VALUES[digit as usize] {
-        NO_DIGIT => None,
-        value => Some(value),
-    }
-}
-
-pub const fn hex(octet: u8) -> [u8; 2] {
-    [
-        HEX_DIGITS[(octet >> 4) as usize],
-        HEX_DIGITS[(octet & 0xF) as usize],
-    ]
 }
 
 #[cfg(test)]

@@ -14,7 +14,7 @@ use Rattle.fusb302.specs.declared.device.Reply.the-variants.{Done}
 use Rattle.fusb302.specs.declared.device.Outcome.{Outcome}
 use Rattle.fusb302.specs.Queued.{queued, Kept}
 use Rattle.fusb302.specs.View.{view, Arranged}
-use Rattle.fusb302.specs.Serves.{listed, Becomes, Sends, Does, DoesQuietly}
+use Rattle.fusb302.specs.Serves.{ifAny, Becomes, Sends, Does, DoesQuietly}
 use Rattle.fusb302.proofs.Sending.{sends-none}
 
 abbrev pub done : Device → ℕ → Outcome
@@ -39,7 +39,7 @@ module _ (s : State) (t : Device) (is : Becomes s t) where
       pub sending : (f : Frame) → Sends (f ∷ []) before n after → Does (sends f s) before (done t n) after
       sending f h = record { state = is .state; arranged = is .arranged; reply = refl; sends = h }
 
-      pub if-sending : (o : Option Frame) → Sends (listed o) before n after → Does (sendsIf o s) before (done t n) after
+      pub if-sending : (o : Option Frame) → Sends (ifAny o) before n after → Does (sendsIf o s) before (done t n) after
       if-sending none h = record { state = is .state; arranged = is .arranged; reply = refl; sends = h }
       if-sending (some f) h = sending f h
 

@@ -22,13 +22,13 @@ use Rattle.machine.specs.Requests.{Effect, silent, driverOn, flightIn, flight, 
 use Rattle.machine.specs.Packets.{
   enables,
   kindOn,
-  hasRoom,
+  fitsRx,
   answers,
   awaitedBy,
   awaited,
   repliesTo,
   rxToken,
-  when,
+  onlyIf,
   checks,
   softResetHeard,
   keeps,
@@ -134,15 +134,15 @@ module _ (d : Device) (m : List ℕ) where
 -- ---- what is noted of it
 
 module _ (d : Device) (arranged : Arranged d) (b : Bool) where
-  pub not-noted : b ≡ false → (f : State → State) → Becomes (when b f (view d)) d
+  pub not-noted : b ≡ false → (f : State → State) → Becomes (onlyIf b f (view d)) d
   not-noted e f = rw e (record { state = refl; arranged = arranged })
 
   pub ends-request : b ≡ true → (t u : Device) → Becomes (over (view d)) t → Becomes (raisesA I-TXSENT (view t)) u
-      → Becomes (when b acknowledged (view d)) u
+      → Becomes (onlyIf b acknowledged (view d)) u
   ends-request e t u x y = rw e (and-then _ t x (raisesA I-TXSENT) u y)
 
   pub shows-reset : b ≡ true → (t u : Device) → Becomes (shows SOFTRST (view d)) t → Becomes (raisesA I-SOFTRST (view t)) u
-      → Becomes (when b softResetHeard (view d)) u
+      → Becomes (onlyIf b softResetHeard (view d)) u
   shows-reset e t u x y = rw e (and-then _ t x (raisesA I-SOFTRST) u y)
 
 -- ---- what is stored
@@ -200,39 +200,39 @@ module _ (d : Device) (k : ℕ) (m : List ℕ) (t : Device) (kept : Becomes (kee
 -- ---- a packet whose CRC is right
 
 -- room, by the FIFO's count
-pub has-room : (d : Device) → Arranged d → (m : List ℕ) → d .rx .len + 1 + length m ≤ 80 → hasRoom m (view d) ≡ true
+pub has-room : (d : Device) → Arranged d → (m : List ℕ) → d .rx .len + 1 + length m ≤ 80 → fitsRx m (view d) ≡ true
 has-room d h m lt = let l = held-length (d .rx) (h .rx) in le-leb (length (held (d .rx)) + suc (length m)) 80 (omega arith)
 
-pub no-room : (d : Device) → Arranged d → (m : List ℕ) → 80 < d .rx .len + 1 + length m → hasRoom m (view d) ≡ false
+pub no-room : (d : Device) → Arranged d → (m : List ℕ) → 80 < d .rx .len + 1 + length m → fitsRx m (view d) ≡ false
 no-room d h m lt = let l = held-length (d .rx) (h .rx) in lt-leb (length (held (d .rx)) + suc (length m)) 80 (omega arith)
 
-pub room-count : (d : Device) → Arranged d → (m : List ℕ) → hasRoom m (view d) ≡ true → d .rx .len + suc (length m) ≤ 80
+pub room-count : (d : Device) → Arranged d → (m : List ℕ) → fitsRx m (view d) ≡ true → d .rx .len + suc (length m) ≤ 80
 room-count d h m e =
     let l = held-length (d .rx) (h .rx) in let r = leb-true (length (held (d .rx)) + suc (length m)) 80 e in omega arith
 
 module _ (d a b c : Device) (k : ℕ) (m : List ℕ) (w r : Bool) (awaits : w ≡ awaited k m (view d)) (resets : r ≡ isControl Soft-Reset m)
-    (checked : Becomes (checks (view d)) a) (ended : Becomes (when w acknowledged (view a)) b) (shown : Becomes (when r softResetHeard (view b)) c) where
+    (checked : Becomes (checks (view d)) a) (ended : Becomes (onlyIf w acknowledged (view a)) b) (shown : Becomes (onlyIf r softResetHeard (view b)) c) where
   is-noted : view c ≡ noted k m (view d)
   is-noted =
-      shown .state ∙ ap (λ (s : State). when r softResetHeard s) (ended .state ∙ ap (λ (s : State). when w acknowledged s) (checked .state))
-      ∙ ap (λ (v : Bool). when r softResetHeard (when v acknowledged (checks (view d)))) awaits
-      ∙ ap (λ (v : Bool). when v softResetHeard (when (awaited k m (view d)) acknowledged (checks (view d)))) resets
+      shown .state ∙ ap (λ (s : State). onlyIf r softResetHeard s) (ended .state ∙ ap (λ (s : State). onlyIf w acknowledged s) (checked .state))
+      ∙ ap (λ (v : Bool). onlyIf r softResetHeard (onlyIf v acknowledged (checks (view d)))) awaits
+      ∙ ap (λ (v : Bool). onlyIf v softResetHeard (onlyIf (awaited k m (view d)) acknowledged (checks (view d)))) resets
 
-  pub accepts-stores : hasRoom m (view c) ≡ true → (before : List ℕ) (o : Outcome) (after : List ℕ) → Does (stores k m (view c)) before o after
+  pub accepts-stores : fitsRx m (view c) ≡ true → (before : List ℕ) (o : Outcome) (after : List ℕ) → Does (stores k m (view c)) before o after
       → Does (accepts k m (view d)) before o after
   unfolding accepts
   accepts-stores e before o after x =
       let same : accepts k m (view d) ≡ stores k m (view c) =
-      ap (λ (t : State). cond (hasRoom m t) (stores k m t) (silent (raises I-ALERT t))) (sym is-noted)
+      ap (λ (t : State). cond (fitsRx m t) (stores k m t) (silent (raises I-ALERT t))) (sym is-noted)
       ∙ ap (λ (v : Bool). cond v (stores k m (view c)) (silent (raises I-ALERT (view c)))) e in
       subst (λ (y : Effect). Does y before o after) (sym same) x
 
-  pub accepts-full : hasRoom m (view c) ≡ false → (u : Device) → Becomes (raises I-ALERT (view c)) u → (before : List ℕ)
+  pub accepts-full : fitsRx m (view c) ≡ false → (u : Device) → Becomes (raises I-ALERT (view c)) u → (before : List ℕ)
       → Does (accepts k m (view d)) before (done u 0) before
   unfolding accepts
   accepts-full e u x before =
       let same : accepts k m (view d) ≡ silent (raises I-ALERT (view c)) =
-      ap (λ (t : State). cond (hasRoom m t) (stores k m t) (silent (raises I-ALERT t))) (sym is-noted)
+      ap (λ (t : State). cond (fitsRx m t) (stores k m t) (silent (raises I-ALERT t))) (sym is-noted)
       ∙ ap (λ (v : Bool). cond v (stores k m (view c)) (silent (raises I-ALERT (view c)))) e in
       rw same (silently _ u x before)
 

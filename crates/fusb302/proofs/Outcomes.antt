@@ -1,14 +1,19 @@
 -- No second outcome, and each reply means one thing.
 -- Assumes nothing.
 use mathlib.Core.Path.{_≡_, refl, sym, ap, _∙_}
+use lib.ListN.{length}
+use Rattle.line.specs.Frame.{joined}
 use Rattle.machine.specs.Events as events
+use Rattle.machine.specs.State.{State}
+use Rattle.machine.specs.Step.{Result, step}
 use Rattle.fusb302.specs.declared.device.Reply.{Reply}
 use Rattle.fusb302.specs.declared.device.Reply.the-variants.{Done, Value, No}
-use Rattle.fusb302.specs.Serves.{replied}
-use Rattle.fusb302.specs.Theorems.{OneMeaning, OneOutcome, OnePowerUp, OneLevel}
+use Rattle.fusb302.specs.Serves.{replied, overlaid}
+use Rattle.fusb302.specs.View.{view}
+use Rattle.fusb302.specs.Theorems.{OneMeaning, OneOutcome, ViewEnough, OnePowerUp, OneLevel}
 
 -- the reply of a meaning
-replyOf : events.Reply → Reply
+pub replyOf : events.Reply → Reply
 replyOf events.done = Done
 replyOf (events.value v) = Value v
 replyOf (events.no n) = No n
@@ -19,19 +24,36 @@ reply-back Done = refl
 reply-back (Value v) = refl
 reply-back (No n) = refl
 
+pub meant-back : (m : events.Reply) → replied (replyOf m) ≡ m
+unfolding replyOf
+meant-back events.done = refl
+meant-back (events.value v) = refl
+meant-back (events.no n) = refl
+
 pub one-meaning : OneMeaning
 one-meaning r s e = sym (reply-back r) ∙ ap replyOf e ∙ reply-back s
 
+same-reply : {r s : Reply} {m n : events.Reply} → replied r ≡ m → replied s ≡ n → m ≡ n → r ≡ s
+same-reply {r} {s} p q e = one-meaning r s (p ∙ e ∙ sym q)
+
 pub one-outcome : OneOutcome
 one-outcome e d before r s a b p q =
-    let same : r .reply ≡ s .reply = one-meaning (r .reply) (s .reply) (p .reply ∙ sym (q .reply)) in (
+    let same : r .reply ≡ s .reply = same-reply (p .reply) (q .reply) refl in (
+      record { reply = same; count = p .count ∙ sym (q .count); state = p .state ∙ sym (q .state); symbols = p .lent ∙ sym (q .lent) },
+      λ n h. p .refused n h ∙ sym (q .refused n (sym same ∙ h)),
+    )
+
+-- a step is of what the device stands for, and of nothing else
+pub view-enough : ViewEnough
+view-enough e d c before r s a b x y v p q =
+    let step′ : step (view d) e ≡ step (view c) e = ap (λ (u : State). step u e) v in (
       record {
-        reply = same;
-        count = p .count ∙ sym (q .count);
-        state = p .state ∙ sym (q .state);
-        refused = λ n h. p .refused n h ∙ sym (q .refused n (sym same ∙ h));
+        reply = same-reply (p .reply) (q .reply) (ap (λ (z : Result). z .reply) step′);
+        count = p .count ∙ ap (λ (z : Result). length (joined (z .frames))) step′ ∙ sym (q .count);
+        state = p .state ∙ ap (λ (z : Result). z .state) step′ ∙ sym (q .state);
+        symbols = p .lent ∙ ap (λ (z : Result). overlaid (joined (z .frames)) before) step′ ∙ sym (q .lent);
       },
-      p .lent ∙ sym (q .lent),
+      (p .asks, q .asks),
     )
 
 pub one-power-up : OnePowerUp

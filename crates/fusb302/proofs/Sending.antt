@@ -27,7 +27,7 @@ use Rattle.fusb302.specs.declared.queue.Queue.{Queue}
 use Rattle.fusb302.specs.declared.queue.Message.{Message}
 use Rattle.fusb302.specs.declared.queue.Message.the-variants.{Spelt, Nothing}
 use Rattle.fusb302.specs.Queued.{queued, speltAs}
-use Rattle.fusb302.specs.Serves.{listed, Sends}
+use Rattle.fusb302.specs.Serves.{ifAny, Sends}
 
 -- ---- a whole frame
 
@@ -86,7 +86,7 @@ counted q k n e =
 
 -- what was answered of it
 module _ (tx : Queue) (r : Message) (is : speltAs r (queued tx) ≡ spelt (queued tx)) where
-  pub unspelt : r ≡ Nothing → (before : List ℕ) → Sends (listed (spelt (queued tx))) before 0 before
+  pub unspelt : r ≡ Nothing → (before : List ℕ) → Sends (ifAny (spelt (queued tx))) before 0 before
   unspelt e before =
       let nothing : none ≡ spelt (queued tx) = rw e at is in
       rw (← nothing) (sends-none before)

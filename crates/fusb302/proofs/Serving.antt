@@ -17,7 +17,7 @@ use Rattle.fusb302.specs.declared.device.Device.{Device}
 use Rattle.fusb302.specs.declared.device.Reply.the-variants.{No}
 use Rattle.fusb302.specs.declared.device.Outcome.{Outcome}
 use Rattle.fusb302.specs.View.{view, Arranged, Asks}
-use Rattle.fusb302.specs.Serves.{replied, over, Serves}
+use Rattle.fusb302.specs.Serves.{replied, overlaid, Serves}
 
 module _ (e : Event) (d : Device) (before : List ℕ) (asks : Asks d) where
   pub serves-no : (n : ℕ) → refusal (view d) e ≡ some n → Serves e d before (record { device = d; reply = No n; count = 0 }) before
@@ -28,7 +28,7 @@ module _ (e : Event) (d : Device) (before : List ℕ) (asks : Asks d) where
   -- a taken event: the device after it, its reply, and the frames' symbols
   module _ (taken : refusal (view d) e ≡ none) (fits : Fits e) (r : Outcome) (after : List ℕ) (arranged : Arranged (r .device)) where
     pub serves-yes : view (r .device) ≡ accepted (view d) e .state → replied (r .reply) ≡ replyTo (view d) e
-        → r .count ≡ length (joined (accepted (view d) e .frames)) → after ≡ over (joined (accepted (view d) e .frames)) before
+        → r .count ≡ length (joined (accepted (view d) e .frames)) → after ≡ overlaid (joined (accepted (view d) e .frames)) before
         → Serves e d before r after
     unfolding step resultOf
     serves-yes state reply count lent =

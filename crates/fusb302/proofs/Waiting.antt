@@ -38,7 +38,7 @@ use Rattle.fusb302.specs.declared.device.Reply.the-variants.{Done, No}
 use Rattle.fusb302.specs.declared.device.Outcome.{Outcome}
 use Rattle.fusb302.specs.Queued.{queued}
 use Rattle.fusb302.specs.View.{phaseOf, asked, requestOf, view, Arranged, Asks}
-use Rattle.fusb302.specs.Serves.{replied, listed, Becomes, Sends, Does, Serves}
+use Rattle.fusb302.specs.Serves.{replied, ifAny, Becomes, Sends, Does, Serves}
 use Rattle.fusb302.proofs.Serving.{serves-no, serves-yes}
 use Rattle.fusb302.proofs.Becoming.{done, itself, and-then, silently, sending, if-sending}
 
@@ -90,7 +90,7 @@ module _ (d : Device) (w : ℕ) (before : List ℕ) where
   pub expires-again : Arranged d → d .request .active ≡ true → d .request .sent < d .request .retries → (q : Request)
       → (q .active ≡ d .request .active) × (asked q ≡ goesOn (phaseOf (d .request .resetting)) (d .request .sent + 1) w (asked (d .request)))
       → (u : Device) → Becomes (withRequest (requestOf q) (view d)) u → (n : ℕ) (after : List ℕ)
-      → Sends (listed (flightIn (phaseOf (d .request .resetting)) (asked (d .request)) (queued (d .tx)))) before n after
+      → Sends (ifAny (flightIn (phaseOf (d .request .resetting)) (asked (d .request)) (queued (d .tx)))) before n after
       → Does (expires w (asked (d .request)) (view d)) before (done u n) after
   unfolding expires
   expires-again arranged active h q goes u x n after sent =

@@ -60,7 +60,7 @@ use Rattle.fusb302.specs.declared.device.Outcome.{Outcome}
 use Rattle.fusb302.specs.Queued.{queued, Kept}
 use Rattle.fusb302.specs.Held.{held, Sound}
 use Rattle.fusb302.specs.View.{requestOf, statusOf, view, Arranged, Asks, PoweredUp}
-use Rattle.fusb302.specs.Serves.{listed, replied, Becomes, Sends, Does, DoesQuietly, Serves, Refuses}
+use Rattle.fusb302.specs.Serves.{ifAny, replied, Becomes, Sends, Does, DoesQuietly, Serves, Refuses}
 use Rattle.fusb302.proofs.Serving.{serves-no, serves-yes}
 use Rattle.fusb302.proofs.Becoming.{done, itself, and-then, hushed, silently, sending, if-sending}
 use Rattle.fusb302.proofs.Showing.{queued-length}
@@ -95,7 +95,7 @@ latching d retries soft hard =
 pub begins : (d : Device) (retries : ℕ) (soft hard : Bool) → retries ≡ retriesOf (getD (d .cells) 7 0)
     → soft ≡ has AUTO-SOFTRESET (getD (d .cells) 7 0) → hard ≡ has AUTO-HARDRESET (getD (d .cells) 7 0)
     → (a b : Device) → Becomes (hides failBits (view d)) a → Becomes (withRequest (requestOf (latching d retries soft hard)) (view a)) b
-    → (n : ℕ) (before after : List ℕ) → Sends (listed (spelt (queued (d .tx)))) before n after
+    → (n : ℕ) (before after : List ℕ) → Sends (ifAny (spelt (queued (d .tx)))) before n after
     → Does (start (view d)) before (done b n) after
 unfolding start latched cell
 begins d retries soft hard p q r a b x y n before after h =

@@ -28,13 +28,13 @@ replied (Value v) = events.value v
 replied (No n) = events.no n
 
 -- symbols at the beginning of what was lent, and then what stood there
-abbrev pub over : List ℕ → List ℕ → List ℕ
-over f l = f ++ drop (length f) l
+abbrev pub overlaid : List ℕ → List ℕ → List ℕ
+overlaid f l = f ++ drop (length f) l
 
 -- frames were put at the beginning of the lent symbols, n symbols in all
 pub record Sends (fs : List Frame) (before : List ℕ) (n : ℕ) (after : List ℕ) : Type 0 where
   pub count : n ≡ length (joined fs)
-  pub lent : after ≡ over (joined fs) before
+  pub lent : after ≡ overlaid (joined fs) before
 
 -- a device that stands for a state
 pub record Becomes (s : State) (d : Device) : Type 0 where
@@ -57,16 +57,16 @@ pub record DoesQuietly (x : Effect) (r : Outcome) : Type 0 where
   pub quiet : x .frames ≡ []
 
 -- none, or one
-abbrev pub listed : Option Frame → List Frame
-listed none = []
-listed (some f) = f ∷ []
+abbrev pub ifAny : Option Frame → List Frame
+ifAny none = []
+ifAny (some f) = f ∷ []
 
 pub record Serves (e : Event) (d : Device) (before : List ℕ) (r : Outcome) (after : List ℕ) : Type 0 where
   pub state : view (r .device) ≡ step (view d) e .state
   pub asks : Asks (r .device)
   pub reply : replied (r .reply) ≡ step (view d) e .reply
   pub count : r .count ≡ length (joined (step (view d) e .frames))
-  pub lent : after ≡ over (joined (step (view d) e .frames)) before
+  pub lent : after ≡ overlaid (joined (step (view d) e .frames)) before
   pub refused : (n : ℕ) → r .reply ≡ No n → r .device ≡ d
 
 -- the same of a read of 43, room for a frame being lent

@@ -1,12 +1,13 @@
 -- The state of the machine that a device stands for, and which devices events lead to.
 -- Assumes nothing.
-use mathlib.Core.Path.{_≡_, refl}
-use mathlib.Core.Bool.{Bool, true, false, cond}
+use mathlib.Core.Path.{_≡_}
+use mathlib.Core.Bool.{Bool, true, false, not, cond}
 use mathlib.Core.Option.{Option, none, some}
 use Prim.Native.Nat.{ℕ}
 use lib.ListN.{length}
 use Rattle.machine.specs.State as machine
 use Rattle.machine.specs.State.{Phase, message, softReset, State, powerUp}
+use Rattle.machine.specs.Status.{intLow}
 use Rattle.machine.specs.Good.{Good}
 use Rattle.fusb302.specs.declared.queue.Queue.{Queue}
 use Rattle.fusb302.specs.declared.fifo.Fifo.{Fifo}
@@ -54,21 +55,6 @@ view d =
       request = requestOf (d .request);
     }
 
--- a device whose every field is one of these: the view leaves none out
-abbrev pub rebuilt : State → Queue → Fifo → ℕ → Request → Device
-rebuilt s tx rx kind request =
-    record {
-      cells = s .cells;
-      tx = tx;
-      rx = rx;
-      status = record { status0a = s .status .status0a; «crc_chk» = s .status .crcChk; kind = kind };
-      ints = record { a = s .ints .a; b = s .ints .b; main = s .ints .main };
-      request = request;
-    }
-
-pub whole : (d : Device) → d ≡ rebuilt (view d) (d .tx) (d .rx) (d .status .kind) (d .request)
-whole d = refl
-
 -- sizes, and what is kept beside the queue's octets
 pub record Arranged (d : Device) : Type 0 where
   pub cells : length (d .cells) ≡ 15
@@ -79,6 +65,10 @@ pub record Arranged (d : Device) : Type 0 where
 pub record Asks (d : Device) : Type 0 where
   pub arranged : Arranged d
   pub good : Good (view d)
+
+-- the level of INT_N, high or low
+abbrev pub Level : Device → Bool → Type 0
+Level d high = high ≡ not (intLow (view d))
 
 pub record PoweredUp (d : Device) : Type 0 where
   pub asks : Asks d

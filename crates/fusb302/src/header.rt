@@ -27,7 +27,7 @@ pub(crate) fn control(code: u8, kind: u8, switches1: u8, id: u8) -> [u8; 2]
     ensures { λ r. ⌜ r ≡ twoOctets (header code kind switches1 id) ⌝ }
 {
     let h = header(code, kind, switches1, id);
-    [(h % 256) as u8, (h >> 8) as u8]
+    [(h & 0xFF) as u8, (h >> 8) as u8]
 }
 
 // The header of a packet.

@@ -38,7 +38,7 @@ ghost use Rattle.line.specs.Write.{frameRoom};
 ghost use Rattle.machine.specs.Registers.{has};
 ghost use Rattle.machine.specs.Headers.{messageId};
 ghost use Rattle.machine.specs.Requests.{acknowledged};
-ghost use Rattle.machine.specs.Packets.{enables, hasRoom, awaited, repliesTo, rxToken, when, checks, softResetHeard, keeps, stores, accepts, hears};
+ghost use Rattle.machine.specs.Packets.{enables, fitsRx, awaited, repliesTo, rxToken, onlyIf, checks, softResetHeard, keeps, stores, accepts, hears};
 ghost use Rattle.machine.specs.Events.{packet};
 ghost use Rattle.fusb302.specs.View.{view, Arranged, Asks};
 ghost use Rattle.fusb302.specs.Serves.{Becomes, Does, Serves};
@@ -124,7 +124,7 @@ impl Device {
     // The awaited GoodCRC ends the request.
     fn acknowledged(self, awaited: bool) -> Device
         requires { ⌜ Arranged self ⌝ }
-        ensures { λ r. ⌜ Becomes (when awaited acknowledged (view self)) r ⌝ }
+        ensures { λ r. ⌜ Becomes (onlyIf awaited acknowledged (view self)) r ⌝ }
     {
         if awaited {
             return self.over().raises_a(I_TXSENT);
@@ -134,7 +134,7 @@ impl Device {
 
     fn soft_reset(self, heard: bool) -> Device
         requires { ⌜ Arranged self ⌝ }
-        ensures { λ r. ⌜ Becomes (when heard softResetHeard (view self)) r ⌝ }
+        ensures { λ r. ⌜ Becomes (onlyIf heard softResetHeard (view self)) r ⌝ }
     {
         if heard {
             return self.shows(SOFTRST).raises_a(I_SOFTRST);
@@ -163,7 +163,7 @@ impl Device {
 
     // Token and octets go to Rx, which they may make full.
     fn keep(mut self, kind: u8, packet: &[u8]) -> Device
-        requires { ⌜ Arranged self × (kind < sopKinds) × (hasRoom (now packet) (view self) ≡ true) ⌝ }
+        requires { ⌜ Arranged self × (kind < sopKinds) × (fitsRx (now packet) (view self) ≡ true) ⌝ }
         ensures { λ r. ⌜ Becomes (keeps kind (now (packet .entry)) (view self)) r ⌝ }
     {
         let rx = self.rx;
@@ -178,7 +178,7 @@ impl Device {
 
     // A packet is kept, and a GoodCRC leaves if one is due.
     fn store(self, kind: u8, packet: &[u8], symbols: &mut [u8]) -> Outcome
-        requires { ⌜ Arranged self × (kind < sopKinds) × (6 ≤ length (now packet)) × (hasRoom (now packet) (view self) ≡ true) × (frameRoom ≤ length (now symbols)) ⌝ }
+        requires { ⌜ Arranged self × (kind < sopKinds) × (6 ≤ length (now packet)) × (fitsRx (now packet) (view self) ≡ true) × (frameRoom ≤ length (now symbols)) ⌝ }
         ensures { λ r. ⌜ Does (stores kind (now (packet .entry)) (view self)) (now (symbols .entry)) r (now (symbols .exit)) ⌝ }
     {
         let replies = self.replies_to(packet);

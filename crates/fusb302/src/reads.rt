@@ -13,13 +13,13 @@ use crate::device::Outcome;
 use crate::fifo::Fifo;
 use crate::queue::Queue;
 ghost use mathlib.Core.Path.{_≡_};
-ghost use mathlib.Core.Bool.{not, _||_};
+ghost use mathlib.Core.Bool.{_||_};
 ghost use Prim.Native.Nat.{_+_, _-_, _≤_};
 ghost use lib.Dec.{eqb};
 ghost use lib.ListN.{length, getD};
-ghost use Rattle.machine.specs.Status.{txRoom, rxRoom, flag, lastIs, status1aOf, status0Of, status1Of, shown, intLow};
+ghost use Rattle.machine.specs.Status.{txRoom, rxRoom, flag, lastIs, status1aOf, status0Of, status1Of, shown};
 ghost use Rattle.machine.specs.Events.{read};
-ghost use Rattle.fusb302.specs.View.{view, Arranged, Asks};
+ghost use Rattle.fusb302.specs.View.{view, Arranged, Asks, Level};
 ghost use Rattle.fusb302.specs.Serves.{Serves, PortRead};
 
 // A mask, or no bit.
@@ -105,7 +105,7 @@ impl Device {
     // The level of INT_N: low (false) exactly when interrupts are on and an unmasked one is set.
     pub fn int_n(self) -> bool
         requires { ⌜ Asks self ⌝ }
-        ensures { λ r. ⌜ r ≡ not (intLow (view self)) ⌝ }
+        ensures { λ r. ⌜ Level self r ⌝ }
     {
         let cells = self.cells;
         if has(INT_MASK, cells[CONTROL0]) {

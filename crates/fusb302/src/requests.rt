@@ -32,7 +32,7 @@ ghost use Rattle.machine.specs.Requests.{flightIn, start, messageFails, softFai
 ghost use Rattle.machine.specs.Events.{pass, hardReset};
 ghost use Rattle.fusb302.specs.Queued.{queued};
 ghost use Rattle.fusb302.specs.View.{phaseOf, asked, view, Arranged, Asks};
-ghost use Rattle.fusb302.specs.Serves.{listed, Sends, Does, Serves};
+ghost use Rattle.fusb302.specs.Serves.{ifAny, Sends, Does, Serves};
 
 // Microseconds: how long a frame waits for its GoodCRC, and the most that pass in one event (01, 'Start', 10).
 const WAIT: u32 = 1000;
@@ -68,7 +68,7 @@ impl Device {
     // What the request sends and sends again.
     fn put_flight(self, symbols: &mut [u8]) -> usize
         requires { ⌜ Arranged self × Octets (queued (self .tx)) × (frameRoom ≤ length (now symbols)) ⌝ }
-        ensures { λ r. ⌜ Sends (listed (flightIn (phaseOf (self .request .resetting)) (asked (self .request)) (queued (self .tx)))) (now (symbols .entry)) r (now (symbols .exit)) ⌝ }
+        ensures { λ r. ⌜ Sends (ifAny (flightIn (phaseOf (self .request .resetting)) (asked (self .request)) (queued (self .tx)))) (now (symbols .entry)) r (now (symbols .exit)) ⌝ }
     {
         if self.request.resetting {
             return put_control(SOFT_RESET, SOP, self.request.switches1, 0, symbols);

@@ -13,7 +13,7 @@ ghost use Rattle.line.specs.Write.{frameRoom};
 ghost use Rattle.machine.specs.Queue.{spelt};
 ghost use Rattle.machine.specs.Headers.{control};
 ghost use Rattle.fusb302.specs.Queued.{queued, Kept};
-ghost use Rattle.fusb302.specs.Serves.{listed, Sends};
+ghost use Rattle.fusb302.specs.Serves.{ifAny, Sends};
 
 // Kinds (01, 'Line code (PD)', table).
 pub(crate) const SOP: u8 = 0;
@@ -43,7 +43,7 @@ pub(crate) fn put_control(code: u8, kind: u8, switches1: u8, id: u8, symbols: &m
 // Writes the message that a queue spells, if it spells one.
 pub(crate) fn put_message(tx: Queue, symbols: &mut [u8]) -> usize
     requires { ⌜ Kept tx × Octets (queued tx) × (frameRoom ≤ length (now symbols)) ⌝ }
-    ensures { λ r. ⌜ Sends (listed (spelt (queued tx))) (now (symbols .entry)) r (now (symbols .exit)) ⌝ }
+    ensures { λ r. ⌜ Sends (ifAny (spelt (queued tx))) (now (symbols .entry)) r (now (symbols .exit)) ⌝ }
 {
     match tx.message() {
         Message::Spelt { kind, count } => {

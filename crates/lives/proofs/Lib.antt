@@ -1,2 +1,3 @@
 -- The proofs of specs/Theorems.antt.
+pub mod Making
 pub mod Living

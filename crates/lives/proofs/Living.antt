@@ -1,13 +1,13 @@
 -- Each event of a life is the machine's step, so what holds of the machine holds of what the methods return and write.
 -- Assumes nothing.
-use mathlib.Core.Path.{_≡_, refl, sym, ap, ap₂, _∙_}
+use mathlib.Core.Path.{_≡_, refl, sym, ap, ap₂, _∙_, subst}
 use mathlib.Core.List.{List, [], _∷_, _++_, append-nil, append-assoc, map, map-append}
 use mathlib.Core.Logic.{_↔_, ⊎-elim}
 use mathlib.Core.Option.{Option, none, some}
 use Prim.Native.Nat.{ℕ, _≤_}
 use native.Mathlib.Omega.{arith}
 use borrow.Author.Tests.{ltb-false}
-use lib.ListN.{length, drop}
+use lib.ListN.{length, take, drop, replicate, length-replicate}
 use lib.Seq.{drop-at}
 use Rattle.line.specs.Frame.{Frame, joined}
 use Rattle.line.specs.Write.{frameRoom}
@@ -28,7 +28,7 @@ use Rattle.fusb302.specs.View.{view}
 use Rattle.fusb302.specs.Serves.{replied, Serves}
 use Rattle.fusb302.proofs.Serving.{served-symbols}
 use Rattle.fusb302.proofs.Outcomes.{one-meaning}
-use Rattle.lives.specs.Lives.{Lived, born, went}
+use Rattle.lives.specs.Lives.{Called, Lived, born, went}
 use Rattle.lives.specs.Theorems.{
   Allowed,
   EveryCallAllowed,
@@ -38,7 +38,11 @@ use Rattle.lives.specs.Theorems.{
   RecordDivides,
   RecordsTellApart,
   OnlySymbolsSent,
+  EveryCallAnswered,
+  LifeOf,
+  EveryHistoryLived,
 }
+use Rattle.lives.proofs.Making.{made, answered, made-powered-up}
 
 -- ---- the machine with one more event
 
@@ -173,3 +177,30 @@ only-symbols-sent es d rs line e before r lent life call serves =
       within = omega (arith, sent-within (view d) e good (call .fits));
       rest = rest-stays serves;
     }
+
+-- ---- 7. Lives leave no history out
+
+pub every-call-answered : EveryCallAnswered
+every-call-answered es d rs line e before life call = answered e d before (follows life .allowed .asks) (call .fits)
+
+-- one event more, whatever its room holds
+lives-on : (es : List Event) (e : Event) → LifeOf es → Fits e → LifeOf (es ++ (e ∷ []))
+lives-on es e l fits =
+    let lent : List ℕ = replicate (room e) 0 in
+    let call : Called e lent = record { fits = fits; lent = sym (length-replicate {A = ℕ} (room e) 0) } in
+    let a = every-call-answered es (l .device) (l .replies) (l .line) e lent (l .lived) call in
+    record {
+      device = a .outcome .device;
+      replies = l .replies ++ (a .outcome .reply ∷ []);
+      line = l .line ++ take (a .outcome .count) (a .after);
+      lived = went (l .lived) call (a .serves);
+    }
+
+lives-through : (es fs : List Event) → LifeOf es → AllFit fs → LifeOf (es ++ fs)
+lives-through es [] l f = subst LifeOf (sym (append-nil es)) l
+lives-through es (e ∷ fs) l f =
+    subst LifeOf (append-assoc es (e ∷ []) fs) (lives-through (es ++ (e ∷ [])) fs (lives-on es e l (f .0)) (f .1))
+
+pub every-history-lived : EveryHistoryLived
+every-history-lived es f =
+    lives-through [] es (record { device = made powerUp; replies = []; line = []; lived = born made-powered-up }) f

@@ -89,3 +89,27 @@ abbrev pub OnlySymbolsSent : Type 0
 OnlySymbolsSent =
     (es : List Event) (d : Device) (rs : List Reply) (line : List ℕ) (e : Event) (before : List ℕ) (r : Outcome) (after : List ℕ)
     → Lived es d rs line → Called e before → Serves e d before r after → SendsOnly before r after
+
+-- ---- 7. Lives leave no history out, so that what holds of them is of nothing empty
+
+-- an outcome and lent symbols that a call's promise allows
+pub record Answered (e : Event) (d : Device) (before : List ℕ) : Type 0 where
+  pub outcome : Outcome
+  pub after : List ℕ
+  pub serves : Serves e d before outcome after
+
+-- whatever is called in whatever life, with whatever symbols lent, has one
+abbrev pub EveryCallAnswered : Type 0
+EveryCallAnswered =
+    (es : List Event) (d : Device) (rs : List Reply) (line : List ℕ) (e : Event) (before : List ℕ)
+    → Lived es d rs line → Called e before → Answered e d before
+
+pub record LifeOf (es : List Event) : Type 0 where
+  pub device : Device
+  pub replies : List Reply
+  pub line : List ℕ
+  pub lived : Lived es device replies line
+
+-- so every list of events that fit has a life
+abbrev pub EveryHistoryLived : Type 0
+EveryHistoryLived = (es : List Event) → AllFit es → LifeOf es

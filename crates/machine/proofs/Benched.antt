@@ -15,7 +15,7 @@ use Rattle.machine.specs.Step.{step, after, replies}
 use Rattle.machine.specs.State.{powerUp}
 use Rattle.machine.specs.Queue.{sameList}
 use Rattle.machine.specs.Events.{Reply, done, value, no}
-use Rattle.machine.specs.Bench.{Case, device, reader, allTaken, Holds, AllHold, cases}
+use Rattle.machine.specs.Bench.{Case, device, reader, allTaken, CaseHolds, AllHold, cases, Benched}
 use Rattle.machine.proofs.Computing.{computed}
 use Rattle.machine.proofs.Spelling.{same-list}
 
@@ -78,7 +78,7 @@ same-said (noAt m p) (wasRead k n q) e = let z : _≡_ {A = ℕ} 0 1 = cc in abs
 same-said (saidNo n) t e = let z : _≡_ {A = ℕ} 0 1 = cc in absurd (omega arith)
 same-said (wasRead k n q) t e = let z : _≡_ {A = ℕ} 0 1 = cc in absurd (omega arith)
 
-shown : (c : Case) → holds c ≡ true → Holds c
+shown : (c : Case) → holds c ≡ true → CaseHolds c
 unfolding holds
 shown (device given e r symbols tx rx) h =
     let a = both (allTaken (replies powerUp given)) _ h in
@@ -95,6 +95,6 @@ all-shown (c ∷ cs) h = let b = both (holds c) (allHold cs) h in (shown c (b .0
 
 -- ---- 8. The table
 
-pub benched : AllHold cases
+pub benched : Benched
 unfolding computed sameReply sameSaid holds allHold
 benched = all-shown cases refl

@@ -33,9 +33,10 @@ use Rattle.machine.specs.State.{
 }
 use Rattle.machine.specs.Status.{txRoom, rxRoom, clearedAt}
 use Rattle.machine.specs.Requests.{over}
-use Rattle.machine.specs.Packets.{when}
+use Rattle.machine.specs.Packets.{onlyIf}
 use Rattle.machine.specs.Good.{Within, KindGood, OpenGood, RequestGood, Good}
 use Rattle.machine.proofs.Masks.{within-less, within-more, within-zero, cells-set}
+use Rattle.machine.specs.Theorems.{PowerUpGood}
 
 -- ---- lists of octets
 
@@ -50,7 +51,7 @@ octets-drop (suc n) (x ∷ xs) o = octets-drop n xs (o .1)
 
 -- ---- power-up
 
-pub power-up-good : Good powerUp
+pub power-up-good : PowerUpGood
 power-up-good =
     record {
       cells = (refl, (refl, (refl, (refl, (refl, (refl, (refl, (refl, (refl, (refl, (refl, (refl, (refl, (refl, (refl, tt)))))))))))))));
@@ -191,6 +192,6 @@ module _ (s : State) (g : Good s) where
       either m x h true = within-zero m
       either m x h false = h
 
-  pub keeps-when : (b : Bool) (f : State → State) → Good (f s) → Good (when b f s)
+  pub keeps-when : (b : Bool) (f : State → State) → Good (f s) → Good (onlyIf b f s)
   keeps-when true f h = h
   keeps-when false f h = g

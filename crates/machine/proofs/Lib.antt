@@ -1,6 +1,7 @@
 -- Laws of the machine, and the proofs of specs/Theorems.antt.
 pub mod Computing
 pub mod Masks
+pub mod Masking
 pub mod Refusing
 pub mod Checking
 pub mod Spelling

@@ -6,7 +6,7 @@ use Prim.Native.Nat.{ℕ, zero, suc, _+_, _*_, _/_, _%_, _≤_, min, max}
 use native.Mathlib.Nat.{div-add-mod'}
 use native.Mathlib.Omega.{arith}
 use lib.Arith.{bin-ind}
-use lib.Bits.{bitAnd, bitOr, and-step, or-step, and-comm, or-comm, and-self, and-zero-l, and-zero-r, and-le-r}
+use lib.Bits.{bitAnd, bitOr, and-step, or-step, and-comm, or-comm, and-self, or-zero-r, and-zero-l, and-zero-r, and-le-r}
 use lib.ListN.{getD, set}
 use Rattle.machine.specs.Good.{Within, AllWithin}
 
@@ -81,6 +81,10 @@ set-by x m = and-or x m m ∙ ap (bitOr (bitAnd x m)) (and-self m) ∙ or-absorb
 
 pub stays-set : (m x y : ℕ) → Set m x → Set m (bitOr x y)
 stays-set m x y h = and-or x y m ∙ ap (λ (z : ℕ). bitOr z (bitAnd y m)) h ∙ or-comm m (bitAnd y m) ∙ or-absorbs y m
+
+-- bits that another mask sets are as they were
+pub set-other : (k x m : ℕ) → bitAnd m k ≡ 0 → bitAnd (bitOr x m) k ≡ bitAnd x k
+set-other k x m e = and-or x m k ∙ ap (bitOr (bitAnd x k)) e ∙ or-zero-r (bitAnd x k)
 
 -- ---- within a mask
 

@@ -17,7 +17,7 @@ use Rattle.machine.specs.State.{State, reg, withTx, raises}
 use Rattle.machine.specs.Status.{txRoom, txFull, I-ALERT}
 use Rattle.machine.specs.Queue.{START, closing, setSymbol, isToken, toCome, inside, spelt, isMessage}
 use Rattle.machine.specs.Requests.{driverOn, start}
-use Rattle.machine.specs.Packets.{when}
+use Rattle.machine.specs.Packets.{onlyIf}
 use Rattle.machine.specs.Events.{Event, write}
 use Rattle.machine.specs.Refusals.{
   txStart,
@@ -97,7 +97,7 @@ queued s q v r = go (txFull (withTx (s .tx ++ (v ∷ [])) s))
     longer : s .tx ++ (v ∷ []) ≡ q ++ (v ∷ [])
     longer = rw (r .holds)
 
-    go : (b : Bool) → Ready (when b (raises I-ALERT) (withTx (s .tx ++ (v ∷ [])) s)) (q ++ (v ∷ []))
+    go : (b : Bool) → Ready (onlyIf b (raises I-ALERT) (withTx (s .tx ++ (v ∷ [])) s)) (q ++ (v ∷ []))
     go true = record { holds = longer; free = r .free; on = r .on }
     go false = record { holds = longer; free = r .free; on = r .on }
 

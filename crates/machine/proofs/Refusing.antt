@@ -22,7 +22,7 @@ use Rattle.machine.specs.Theorems.{
   FirstToApply,
   RefusedExactly,
   RefusalChangesNothing,
-  Given,
+  GivenAfter,
   EachNumberGiven,
   Applies,
   GivenBefore,
@@ -130,11 +130,11 @@ same-octets zero b h = tt
 same-octets (suc n) b h = (h, same-octets n b h)
 
 -- refused at power-up
-at-once : {n : ℕ} (e : Event) → Fits e → step powerUp e .reply ≡ no n → Given n
+at-once : {n : ℕ} (e : Event) → Fits e → step powerUp e .reply ≡ no n → GivenAfter n
 unfolding after
 at-once e h q = record { history = []; event = e; fits = (tt, h); refused = q }
 
-in-flight : Given 6
+in-flight : GivenAfter 6
 unfolding computed
 in-flight =
     let queue = nameQueue ++ (0xA1 ∷ []) in
@@ -145,7 +145,7 @@ in-flight =
       refused = refl;
     }
 
-full : Given 5
+full : GivenAfter 5
 unfolding computed
 full =
     let queue : List ℕ = replicate 48 0x12 in

@@ -2,14 +2,15 @@
 -- Assumes nothing.
 use mathlib.Core.Path.{_≡_, refl, sym, ap, _∙_, subst}
 use mathlib.Core.Bool.{Bool, true, false, not, cond, _&&_, _||_, true≢false}
-use mathlib.Core.List.{List, [], _∷_, _++_, append-assoc}
+use mathlib.Core.List.{List, [], _∷_, _++_, append-nil, append-assoc}
 use mathlib.Core.Option.{Option, none, some}
-use Prim.Native.Nat.{ℕ, zero, suc, _+_, _-_, _<_, _≤_}
+use Prim.Native.Nat.{ℕ, zero, suc, _+_, _*_, _-_, _/_, _<_, _≤_}
 use native.Mathlib.Omega.{arith}
-use borrow.Author.Tests.{lt-ltb, le-ltb, eqb-true}
-use lib.Dec.{eqb}
-use lib.ListN.{replicate, replicate-append-replicate}
-use lib.Seq.{getD-set-other}
+use borrow.Author.Tests.{lt-ltb, le-ltb, le-leb, lt-leb, ltb-true, ltb-false, eqb-true}
+use lib.Bits.{bitAnd, bitOr}
+use lib.Dec.{ltb, leb, eqb}
+use lib.ListN.{take, replicate, length-replicate, length-append, replicate-append-replicate}
+use lib.Seq.{getD-set-other, take-append-le, take-append-add, take-all}
 use Rattle.line.specs.Frame.{Frame}
 use Rattle.line.specs.Refusal.{firstNo}
 use Rattle.line.specs.Write.{frameRoom}
@@ -17,7 +18,7 @@ use Rattle.line.specs.Read.{kindFrom, common}
 use Rattle.machine.specs.Registers.{control0, cell, stored, has, fifos, TX-FLUSH, TX-START}
 use Rattle.machine.specs.State.{Phase, message, softReset, Request, State, withCells, withRequest, hides, shows, raisesA}
 use Rattle.machine.specs.Status.{RETRYFAIL, SOFTFAIL, I-RETRYFAIL, I-SOFTFAIL, I-HARDSENT}
-use Rattle.machine.specs.Queue.{START, inside, spelt, speltBy}
+use Rattle.machine.specs.Queue.{START, inside, isSome, spelt, speltBy}
 use Rattle.machine.specs.Requests.{
   Effect,
   silent,
@@ -39,11 +40,22 @@ use Rattle.machine.specs.Requests.{
   elapses,
   passes,
 }
-use Rattle.machine.specs.Packets.{when}
+use Rattle.machine.specs.Packets.{onlyIf}
 use Rattle.machine.specs.Events.{Event, write, pass}
 use Rattle.machine.specs.Refusals.{txStart, portStart, starts, no12, no1, no2, no6, no3, no5, no4, no7, no8, no11, no9, no10, refusal}
 use Rattle.machine.specs.Step.{control0Written, portWritten, commands, writes, accepted, resultOf, step, after, frames}
-use Rattle.machine.specs.Theorems.{waits, sequel, Started, SentAgain, SentToTheEnd}
+use Rattle.machine.proofs.Masks.{Set, set-by, set-other, within-and, outside}
+use Rattle.machine.specs.Theorems.{
+  passing,
+  AllParts,
+  inAll,
+  waits,
+  sequel,
+  Started,
+  SentToTheEnd,
+  Shows,
+  FailsExactly,
+}
 
 -- ---- histories joined
 
@@ -52,164 +64,176 @@ unfolding after
 after-append s [] ys = refl
 after-append s (x ∷ xs) ys = after-append (step s x .state) xs ys
 
-frames-append : (s : State) (xs ys : List Event) → frames s (xs ++ ys) ≡ frames s xs ++ frames (after s xs) ys
-unfolding after frames
-frames-append s [] ys = refl
-frames-append s (x ∷ xs) ys = rw (frames-append (step s x .state) xs ys) (sym (append-assoc (step s x .frames) _ _))
+-- ---- a request that nobody answers, stage by stage
 
--- events lead from one state to another, and send these frames
-record Ran (s : State) (es : List Event) (t : State) (fs : List Frame) : Type 0 where
-  state : after s es ≡ t
-  sent : frames s es ≡ fs
+abbrev failed : State → State
+failed s = raisesA I-RETRYFAIL (shows RETRYFAIL (over s))
 
-stays : (s : State) → Ran s [] s []
-unfolding after frames
-stays s = record { state = refl; sent = refl }
+abbrev softFailed : State → State
+softFailed s = raisesA I-SOFTFAIL (shows SOFTFAIL (over s))
 
-goes : {s t u : State} {e : Event} {es : List Event} {fs gs : List Frame}
-    → step s e .state ≡ t → step s e .frames ≡ fs → Ran t es u gs → Ran s (e ∷ es) u (fs ++ gs)
-unfolding after frames
-goes p q r = record { state = rw p (r .state); sent = rw (p, q, r .sent) }
+-- when the last wait of the message runs out
+abbrev endOf : Request → ℕ
+endOf q = suc (q .retries) * wait
 
-joins : {s t u : State} {xs ys : List Event} {fs gs : List Frame} → Ran s xs t fs → Ran t ys u gs → Ran s (xs ++ ys) u (fs ++ gs)
-joins {s} {xs = xs} {ys = ys} p q =
-    record {
-      state = after-append s xs ys ∙ rw (p .state) (q .state);
-      sent = frames-append s xs ys ∙ rw (p .state, p .sent, q .sent);
-    }
+-- where a request stands after so many microseconds, and what it has sent: k waits of its phase have run out, and w of the next have passed
+data Stage (q : Request) (f : Frame) (base : State) : ℕ → State → List Frame → Type 0 where
+  sending : (k w : ℕ) {n : ℕ} → k ≤ q .retries → w < wait → n ≡ k * wait + w
+      → Stage q f base n (withRequest (some (goesOn message k w q)) base) (replicate (suc k) f)
+  resetting : (k w : ℕ) {n : ℕ} → q .soft ≡ true → k ≤ q .retries → w < wait → n ≡ endOf q + (k * wait + w)
+      → Stage q f base n (withRequest (some (goesOn softReset k w q)) (failed base))
+      (replicate (suc (q .retries)) f ++ replicate (suc k) (softResetOf q))
+  message-over : {n : ℕ} → q .soft ≡ false → endOf q ≤ n → Stage q f base n (failed base) (replicate (suc (q .retries)) f)
+  reset-over : {n : ℕ} → q .soft ≡ true → q .hard ≡ false → endOf q + endOf q ≤ n
+      → Stage q f base n (softFailed (failed base))
+      (replicate (suc (q .retries)) f ++ replicate (suc (q .retries)) (softResetOf q))
+  hard-reset : {n : ℕ} → q .soft ≡ true → q .hard ≡ true → endOf q + endOf q ≤ n
+      → Stage q f base n (raisesA I-HARDSENT (softFailed (failed base)))
+      (replicate (suc (q .retries)) f ++ replicate (suc (q .retries)) (softResetOf q) ++ (hardReset ∷ []))
 
--- and the request is over then
-record Ends (s : State) (es : List Event) (fs : List Frame) : Type 0 where
-  last : State
-  ran : Ran s es last fs
-  ended : last .request ≡ none
+one-more : (n : ℕ) (f : Frame) → replicate n f ++ (f ∷ []) ≡ replicate (suc n) f
+one-more n f = let count : n + 1 ≡ suc n = omega arith in rw count at (replicate-append-replicate n 1 f)
 
-joins-end : {s t : State} {xs ys : List Event} {fs gs : List Frame} → Ran s xs t fs → Ends t ys gs → Ends s (xs ++ ys) (fs ++ gs)
-joins-end p q = record { last = q .last; ran = joins p (q .ran); ended = q .ended }
+module _ (q : Request) (f : Frame) (base : State) where
+  -- the stage that an effect leads to, where these frames had left
+  abbrev Goes : ℕ → List Frame → Effect → Type 0
+  Goes n fs x = Stage q f base n (x .state) (fs ++ x .frames)
 
--- ---- a wait that runs out
+  -- another way to write what was sent
+  sent-as : {n : ℕ} {t : State} {fs gs : List Frame} → Stage q f base n t fs → fs ≡ gs → Stage q f base n t gs
+  sent-as {n} {t} st e = subst (λ (l : List Frame). Stage q f base n t l) e st
 
--- a request in a phase, with so many retries sent
-abbrev at : Phase → ℕ → Request → State → State
-at p n q s = withRequest (some (goesOn p n (q .waited) q)) s
+  unsent : {n : ℕ} {t : State} {fs : List Frame} → Stage q f base n t fs → Goes n fs (silent t)
+  unsent {fs = fs} st = sent-as st (sym (append-nil fs))
 
-pass-taken : (s : State) (room n : ℕ) → frameRoom ≤ room → n ≤ 1000 → refusal s (pass room n) ≡ none
+  goes-cond : (n : ℕ) (fs : List Frame) (b : Bool) (x y : Effect) → (b ≡ true → Goes n fs x) → (b ≡ false → Goes n fs y) → Goes n fs (cond b x y)
+  goes-cond n fs true x y p q = p refl
+  goes-cond n fs false x y p q = q refl
+
+  module _ (k w n m : ℕ) (few : k ≤ q .retries) (short : w < wait) (part : m ≤ wait) where
+    message-goes : spelt (base .tx) ≡ some f → n ≡ k * wait + w
+        → Goes (n + m) (replicate (suc k) f) (elapses (w + m) (goesOn message k w q) (withRequest (some (goesOn message k w q)) base))
+    unfolding elapses expires fails messageFails flightIn
+    message-goes spells is =
+        goes-cond (n + m) (replicate (suc k) f) (ltb (w + m) wait) _ _
+        (λ e. let z = ltb-true (w + m) wait e in unsent (sending k (w + m) few z (omega arith)))
+        (λ e.
+        let z = ltb-false (w + m) wait e in
+        goes-cond (n + m) (replicate (suc k) f) (ltb k (q .retries)) _ _
+        (λ g.
+        let y = ltb-true k (q .retries) g in
+        rw spells (sent-as (sending (suc k) (w + m - wait) y (omega arith) (omega arith)) (sym (one-more (suc k) f))))
+        (λ g.
+        let y = ltb-false k (q .retries) g in
+        let last : q .retries ≡ k = omega arith in
+        goes-cond (n + m) (replicate (suc k) f) (q .soft) _ _
+        (λ h. sent-as (resetting 0 (w + m - wait) h (omega arith) (omega arith) (omega arith)) (rw last refl))
+        (λ h. sent-as (message-over h (omega arith)) (rw last (sym (append-nil (replicate (suc k) f)))))))
+
+    reset-goes : q .soft ≡ true → n ≡ endOf q + (k * wait + w)
+        → Goes (n + m) (replicate (suc (q .retries)) f ++ replicate (suc k) (softResetOf q))
+        (elapses (w + m) (goesOn softReset k w q) (withRequest (some (goesOn softReset k w q)) (failed base)))
+    unfolding elapses expires fails softFails flightIn
+    reset-goes soft is =
+        let sent = replicate (suc (q .retries)) f ++ replicate (suc k) (softResetOf q) in
+        goes-cond (n + m) sent (ltb (w + m) wait) _ _
+        (λ e. let z = ltb-true (w + m) wait e in unsent (resetting k (w + m) soft few z (omega arith)))
+        (λ e.
+        let z = ltb-false (w + m) wait e in
+        goes-cond (n + m) sent (ltb k (q .retries)) _ _
+        (λ g.
+        let y = ltb-true k (q .retries) g in
+        sent-as (resetting (suc k) (w + m - wait) soft y (omega arith) (omega arith))
+        (ap (λ (l : List Frame). replicate (suc (q .retries)) f ++ l) (sym (one-more (suc k) (softResetOf q))) ∙ sym (append-assoc (replicate (suc (q .retries)) f) _ _)))
+        (λ g.
+        let y = ltb-false k (q .retries) g in
+        let last : q .retries ≡ k = omega arith in
+        goes-cond (n + m) sent (q .hard) _ _
+        (λ h. sent-as (hard-reset soft h (omega arith)) (rw last refl))
+        (λ h. sent-as (reset-over soft h (omega arith)) (rw last (sym (append-nil _))))))
+
+  -- any stage, and a part of time
+  stage-goes : spelt (base .tx) ≡ some f → {n : ℕ} {t : State} {fs : List Frame} → Stage q f base n t fs → (m : ℕ) → m ≤ wait
+      → Goes (n + m) fs (passes m (t .request) t)
+  unfolding passes
+  stage-goes spells (sending k w {n} few short is) m part = message-goes k w n m few short part spells is
+  stage-goes spells (resetting k w {n} soft few short is) m part = reset-goes k w n m few short part soft is
+  stage-goes spells (message-over soft h) m part = unsent (message-over soft (omega arith))
+  stage-goes spells (reset-over soft hard h) m part = unsent (reset-over soft hard (omega arith))
+  stage-goes spells (hard-reset soft hard h) m part = unsent (hard-reset soft hard (omega arith))
+
+-- ---- time events
+
+pass-taken : (s : State) (room n : ℕ) → frameRoom ≤ room → n ≤ wait → refusal s (pass room n) ≡ none
 unfolding refusal firstNo no12 no1 no2 no6 no3 no5 no4 no7 no8 no11 no9 no10
 pass-taken s room n h k = simp (le-ltb room frameRoom h, le-ltb 1000 n k)
 
--- the next wait has come as far as this one had
-wait-expires : (q : Request) (s : State) → passes wait (some q) s ≡ expires (q .waited) q s
-unfolding passes elapses
-wait-expires q s =
-    let back : q .waited + 1000 - 1000 ≡ q .waited = omega arith in
-    rw (le-ltb (q .waited + 1000) 1000 (omega arith), back)
+-- a time event that is taken does what its microseconds do
+pub pass-step : (s : State) (room n : ℕ) → frameRoom ≤ room → n ≤ wait
+    → (step s (pass room n) .state ≡ passes n (s .request) s .state) × (step s (pass room n) .frames ≡ passes n (s .request) s .frames)
+unfolding step resultOf accepted
+pass-step s room n enough h = let taken = pass-taken s room n enough h in (rw taken refl, rw taken refl)
 
--- a retry is left: the frame in flight is sent again
-again : (p : Phase) (n : ℕ) (q : Request) (s : State) (f : Frame) → flightIn p (goesOn p n (q .waited) q) (s .tx) ≡ some f → n < q .retries
-    → passes wait (at p n q s .request) (at p n q s) ≡ sends f (at p (suc n) q s)
-unfolding expires
-again p n q s f flies h =
-    wait-expires (goesOn p n (q .waited) q) (at p n q s) ∙ rw (lt-ltb n (q .retries) h, flies)
+-- one of a history's events, and those behind it
+first-then : (s : State) (e : Event) (es : List Event) {t : State} {fs : List Frame} → step s e .state ≡ t → step s e .frames ≡ fs
+    → (after s (e ∷ es) ≡ after t es) × (frames s (e ∷ es) ≡ fs ++ frames t es)
+unfolding after frames
+first-then s e es p q = (rw p refl, rw (p, q) refl)
 
--- none is left
-no-more : (p : Phase) (q : Request) (s : State)
-    → passes wait (at p (q .retries) q s .request) (at p (q .retries) q s)
-    ≡ fails p (q .waited) (goesOn p (q .retries) (q .waited) q) (at p (q .retries) q s)
-unfolding expires
-no-more p q s =
-    wait-expires (goesOn p (q .retries) (q .waited) q) (at p (q .retries) q s) ∙ rw (le-ltb (q .retries) (q .retries) (omega arith))
-
-module _ (room : ℕ) (enough : frameRoom ≤ room) where
-  wait-step : (s : State) (x : Effect) → passes wait (s .request) s ≡ x
-      → (step s (pass room wait) .state ≡ x .state) × (step s (pass room wait) .frames ≡ x .frames)
-  unfolding step resultOf accepted
-  wait-step s x e = let taken = pass-taken s room wait enough (omega arith) in (rw (taken, e), rw (taken, e))
-
-  waits-then : {s u : State} {es : List Event} {gs : List Frame} (x : Effect) → passes wait (s .request) s ≡ x → Ran (x .state) es u gs
-      → Ran s (pass room wait ∷ es) u (x .frames ++ gs)
-  waits-then {s} x e r = let st = wait-step s x e in goes (st .0) (st .1) r
-
-  -- so many retries, from the n-th on
-  resends : (p : Phase) (q : Request) (s : State) (f : Frame) → ((n : ℕ) → flightIn p (goesOn p n (q .waited) q) (s .tx) ≡ some f)
-      → (k n : ℕ) → n + k ≤ q .retries → Ran (at p n q s) (waits room k) (at p (n + k) q s) (replicate k f)
-  resends p q s f flies zero n h = let e : n + 0 ≡ n = omega arith in rw e (stays (at p n q s))
-  resends p q s f flies (suc k) n h =
-      let e : n + suc k ≡ suc n + k = omega arith in
-      rw e (waits-then (sends f (at p (suc n) q s)) (again p n q s f (flies n) (omega arith)) (resends p q s f flies k (suc n) (omega arith)))
-
-  nothing-more : (s : State) → s .request ≡ none → (n : ℕ) → Ran s (waits room n) s []
-  unfolding passes
-  nothing-more s e zero = stays s
-  nothing-more s e (suc n) = waits-then (silent s) (rw e) (nothing-more s e n)
-
-  -- the Soft_Reset fails
-  soft-ends : (q : Request) (s : State) → Ends (at softReset (q .retries) q s) (waits room 1) (cond (q .hard) (hardReset ∷ []) [])
-  unfolding fails softFails
-  soft-ends q s = go (q .hard) refl
-    where
-      failed : State
-      failed = raisesA I-SOFTFAIL (shows SOFTFAIL (over s))
-
-      go : (b : Bool) → q .hard ≡ b → Ends (at softReset (q .retries) q s) (waits room 1) (cond b (hardReset ∷ []) [])
-      go true e =
-          let t = raisesA I-HARDSENT failed in
-          record { last = t; ran = waits-then (sends hardReset t) (no-more softReset q s ∙ rw e) (stays t); ended = refl }
-      go false e = record { last = failed; ran = waits-then (silent failed) (no-more softReset q s ∙ rw e) (stays failed); ended = refl }
-
-  -- the message fails, and what was latched follows
-  message-ends : (q : Request) (s : State) → Ends (at message (q .retries) q s) (waits room (suc (q .retries + 1))) (sequel q)
-  unfolding fails messageFails flightIn
-  message-ends q s = go (q .soft) refl
-    where
-      failed : State
-      failed = raisesA I-RETRYFAIL (shows RETRYFAIL (over s))
-
-      go : (b : Bool) → q .soft ≡ b
-          → Ends (at message (q .retries) q s) (waits room (suc (q .retries + 1)))
-          (cond b (replicate (suc (q .retries)) (softResetOf q) ++ cond (q .hard) (hardReset ∷ []) []) [])
-      go true e =
-          let t = at softReset 0 q failed in
-          let count : 0 + q .retries ≡ q .retries = omega arith in
-          let more = rw count at (resends softReset q failed (softResetOf q) (λ n. refl) (q .retries) 0 (omega arith)) in
-          let end = joins-end more (soft-ends q failed) in
-          record {
-            last = end .last;
-            ran = waits-then {u = end .last} (sends (softResetOf q) t) (no-more message q s ∙ rw e)
-                (rw replicate-append-replicate at (end .ran));
-            ended = end .ended;
-          }
-      go false e =
-          record {
-            last = failed;
-            ran = waits-then (silent failed) (no-more message q s ∙ rw e) (nothing-more failed refl (q .retries + 1));
-            ended = refl;
-          }
+module _ (q : Request) (f : Frame) (base : State) (spells : spelt (base .tx) ≡ some f) (room : ℕ) (enough : frameRoom ≤ room) where
+  stage-runs : (ns : List ℕ) → AllParts ns → {n : ℕ} {t : State} {fs : List Frame} → Stage q f base n t fs
+      → Stage q f base (n + inAll ns) (after t (passing room ns)) (fs ++ frames t (passing room ns))
+  unfolding after frames
+  stage-runs [] parts {n} {t} {fs} st =
+      let same : n + 0 ≡ n = omega arith in
+      rw (same, append-nil) st
+  stage-runs (m ∷ ns) parts {n} {t} {fs} st =
+      let next = stage-goes q f base spells st m (parts .0) in
+      let e = pass-step t room m enough (parts .0) in
+      let first = first-then t (pass room m) (passing room ns) (e .0) (e .1) in
+      let sum : n + (m + inAll ns) ≡ n + m + inAll ns = omega arith in
+      rw (sum, first .0, first .1, ← append-assoc) (stage-runs ns (parts .1) next)
 
 -- ---- an accepted start
 
--- what a start leaves: the request as it was latched, and a queue that spells its frame
+-- what a start leaves: the request as it was latched, a queue that spells its frame, and no fail bit
 record Opened (s : State) (t : State) (f : Frame) : Type 0 where
   base : State
-  is : t ≡ at message 0 (latched s) base
+  is : t ≡ withRequest (some (goesOn message 0 0 (latched s))) base
   spells : spelt (base .tx) ≡ some f
+  queue : base .tx ≡ s .tx
+  ints : base .ints .a ≡ s .ints .a
+  retryfail : bitAnd (base .status .status0a) RETRYFAIL ≡ 0
+  softfail : bitAnd (base .status .status0a) SOFTFAIL ≡ 0
 
-fresh : (s : State) → goesOn message 0 (latched s .waited) (latched s) ≡ latched s
+fresh : (s : State) → goesOn message 0 0 (latched s) ≡ latched s
 unfolding latched
 fresh s = refl
 
-start-opens : (s t : State) (f : Frame) → latched t ≡ latched s → start t .frames ≡ f ∷ [] → Opened s (start t .state) f
+start-opens : (s : State) (cells : List ℕ) (f : Frame) → latched (withCells cells s) ≡ latched s → start (withCells cells s) .frames ≡ f ∷ []
+    → Opened s (start (withCells cells s) .state) f
 unfolding start
-start-opens s t f e q = go (spelt (t .tx)) refl q
+start-opens s cells f e q = go (spelt (s .tx)) refl q
   where
-    then : State
-    then = withRequest (some (latched t)) (hides failBits t)
+    kept : State
+    kept = hides failBits (withCells cells s)
 
-    go : (o : Option Frame) → spelt (t .tx) ≡ o → sendsIf o then .frames ≡ f ∷ [] → Opened s (sendsIf o then .state) f
+    then : State
+    then = withRequest (some (latched (withCells cells s))) kept
+
+    go : (o : Option Frame) → spelt (s .tx) ≡ o → sendsIf o then .frames ≡ f ∷ [] → Opened s (sendsIf o then .state) f
     go none p q = let z : _≡_ {A = ℕ} 0 1 = cc in absurd (omega arith)
     go (some g) p q =
         let same : g ≡ f = cc in
-        let kept = hides failBits t in
-        record { base = kept; is = ap (λ (r : Request). withRequest (some r) kept) (e ∙ sym (fresh s)); spells = cc }
+        record {
+          base = kept;
+          is = ap (λ (r : Request). withRequest (some r) kept) (e ∙ sym (fresh s));
+          spells = cc;
+          queue = refl;
+          ints = refl;
+          retryfail = outside 0xCF RETRYFAIL _ (within-and (s .status .status0a) 0xCF) refl;
+          softfail = outside 0xCF SOFTFAIL _ (within-and (s .status .status0a) 0xCF) refl;
+        }
 
 -- to store Control0 changes nothing that is latched
 still-latched : (s : State) (v : ℕ) → latched (withCells (stored control0 v (s .cells)) s) ≡ latched s
@@ -224,14 +248,14 @@ flushed t f e q =
     let z : _≡_ {A = ℕ} 0 1 = cc in
     omega arith
 
-control0-opens : (s t : State) (v : ℕ) (f : Frame) → latched t ≡ latched s → has TX-START v ≡ true → control0Written v t .frames ≡ f ∷ []
-    → Opened s (control0Written v t .state) f
+control0-opens : (s : State) (cells : List ℕ) (v : ℕ) (f : Frame) → latched (withCells cells s) ≡ latched s → has TX-START v ≡ true
+    → control0Written v (withCells cells s) .frames ≡ f ∷ [] → Opened s (control0Written v (withCells cells s) .state) f
 unfolding control0Written
-control0-opens s t v f e h q = rw h (go (has TX-FLUSH v) (rw h at q))
+control0-opens s cells v f e h q = rw h (go (has TX-FLUSH v) (rw h at q))
   where
-    go : (b : Bool) → start (when b over t) .frames ≡ f ∷ [] → Opened s (start (when b over t) .state) f
-    go true q = absurd (flushed (over t) f refl q)
-    go false q = start-opens s t f e q
+    go : (b : Bool) → start (onlyIf b over (withCells cells s)) .frames ≡ f ∷ [] → Opened s (start (onlyIf b over (withCells cells s)) .state) f
+    go true q = absurd (flushed (over (withCells cells s)) f refl q)
+    go false q = start-opens s cells f e q
 
 both-true : (a b : Bool) → (a && b) ≡ true → (a ≡ true) × (b ≡ true)
 both-true true b e = (refl, e)
@@ -242,11 +266,11 @@ Opens s f v a = writes a v s .frames ≡ f ∷ [] → Opened s (writes a v s .st
 
 tx-opens : (s : State) (v : ℕ) (f : Frame) → has TX-START v ≡ true → Opens s f v control0
 unfolding writes commands
-tx-opens s v f h q = control0-opens s (withCells (stored control0 v (s .cells)) s) v f (still-latched s v) h q
+tx-opens s v f h q = control0-opens s (stored control0 v (s .cells)) v f (still-latched s v) h q
 
 port-opens : (s : State) (v : ℕ) (f : Frame) → portStart s fifos v ≡ true → Opens s f v fifos
 unfolding writes portWritten
-port-opens s v f h q = rw h (start-opens s s f refl (rw h at q))
+port-opens s v f h q = rw h (start-opens s (s .cells) f refl (rw h at q))
 
 writes-open : (s : State) (a v : ℕ) (f : Frame) → starts s a v ≡ true → Opens s f v a
 unfolding starts txStart portStart
@@ -271,34 +295,190 @@ opened : (s : State) (e : Event) (f : Frame) → Started s e f → Opened s (ste
 opened s e f st =
     subst (StepOpens s f) (sym (st .is)) (step-opens s (st .room) (st .address) (st .octet) f (st .starting)) (st .taken) (st .sent)
 
+-- ---- what has left at a stage
+
+take-replicate : (k n : ℕ) (f : Frame) → k ≤ n → take k (replicate n f) ≡ replicate k f
+take-replicate zero n f h = refl
+take-replicate (suc k) zero f h = absurd (omega arith)
+take-replicate (suc k) (suc n) f h = ap (λ (l : List Frame). f ∷ l) (take-replicate k n f (omega arith))
+
+-- the first of so many, and of so many and what is behind them
+take-first : (k n : ℕ) (f : Frame) (l : List Frame) → k ≤ n → take k (replicate n f ++ l) ≡ replicate k f
+take-first k n f l h = take-append-le k (replicate n f) l (omega (arith, length-replicate n f)) ∙ take-replicate k n f h
+
+take-behind : (k n : ℕ) (f : Frame) (l : List Frame) → take (n + k) (replicate n f ++ l) ≡ replicate n f ++ take k l
+take-behind k n f l = rw (length-replicate n f) at (take-append-add (replicate n f) l k)
+
+module _ (q : Request) (f : Frame) (base : State) where
+  stage-sent : {n : ℕ} {t : State} {fs : List Frame} → Stage q f base n t fs
+      → fs ≡ take (suc (n / wait)) (replicate (suc (q .retries)) f ++ sequel q)
+  stage-sent (sending k w few short is) =
+      let d : (k * wait + w) / wait ≡ k = omega arith in
+      rw (is, d) (sym (take-first (suc k) (suc (q .retries)) f (sequel q) (omega arith)))
+  stage-sent (resetting k w {n} soft few short is) =
+      let d : suc (q .retries) + suc k ≡ suc (n / wait) = omega arith in
+      let all = replicate (suc (q .retries)) f ++ (replicate (suc (q .retries)) (softResetOf q) ++ cond (q .hard) (hardReset ∷ []) []) in
+      rw soft
+      (sym (take-behind (suc k) (suc (q .retries)) f _
+      ∙ ap (λ (l : List Frame). replicate (suc (q .retries)) f ++ l) (take-first (suc k) (suc (q .retries)) (softResetOf q) _ (omega arith)))
+      ∙ ap (λ (c : ℕ). take c all) d)
+  stage-sent (message-over {n} soft h) =
+      let messages = replicate (suc (q .retries)) f in
+      let long = length-replicate (suc (q .retries)) f in
+      rw soft (sym (ap (take (suc (n / wait))) (append-nil messages) ∙ take-all (suc (n / wait)) messages (omega arith)))
+  stage-sent (reset-over {n} soft hard h) =
+      let messages = replicate (suc (q .retries)) f in
+      let resets = replicate (suc (q .retries)) (softResetOf q) in
+      let one = length-replicate (suc (q .retries)) f in
+      let two = length-replicate (suc (q .retries)) (softResetOf q) in
+      let both = length-append messages resets in
+      rw (soft, hard)
+      (sym (ap (λ (l : List Frame). take (suc (n / wait)) (messages ++ l)) (append-nil resets) ∙ take-all (suc (n / wait)) (messages ++ resets) (omega arith)))
+  stage-sent (hard-reset {n} soft hard h) =
+      let messages = replicate (suc (q .retries)) f in
+      let resets = replicate (suc (q .retries)) (softResetOf q) in
+      let one = length-replicate (suc (q .retries)) f in
+      let two = length-replicate (suc (q .retries)) (softResetOf q) in
+      let both = length-append messages (resets ++ (hardReset ∷ [])) in
+      let last = length-append resets (hardReset ∷ []) in
+      rw (soft, hard) (append-assoc messages resets (hardReset ∷ []) ∙ sym (take-all (suc (n / wait)) (messages ++ (resets ++ (hardReset ∷ []))) (omega arith)))
+
+-- ---- what a stage shows
+
+has-set : (x m : ℕ) → has m (bitOr x m) ≡ not (eqb m 0)
+unfolding has
+has-set x m = ap (λ (y : ℕ). not (eqb y 0)) (set-by x m)
+
+has-other : (k x m : ℕ) → bitAnd m k ≡ 0 → has k (bitOr x m) ≡ has k x
+unfolding has
+has-other k x m e = ap (λ (y : ℕ). not (eqb y 0)) (set-other k x m e)
+
+has-none : (k x : ℕ) → bitAnd x k ≡ 0 → has k x ≡ false
+unfolding has
+has-none k x e = ap (λ (y : ℕ). not (eqb y 0)) e
+
+and-none : (b : Bool) → (b && false) ≡ false
+and-none true = refl
+and-none false = refl
+
+module _ (s : State) (f : Frame) (t : State) (o : Opened s t f) where
+  -- 3C and 3E as the start left them
+  abbrev x : ℕ
+  x = o .base .status .status0a
+
+  abbrev i : ℕ
+  i = o .base .ints .a
+
+  sending-shows : (r : Request) → Shows s (withRequest (some r) (o .base)) false false false true
+  sending-shows r =
+      record {
+        retryfail = has-none RETRYFAIL x (o .retryfail);
+        softfail = has-none SOFTFAIL x (o .softfail);
+        i-retryfail = ap (has I-RETRYFAIL) (o .ints);
+        i-softfail = ap (has I-SOFTFAIL) (o .ints);
+        i-hardsent = ap (has I-HARDSENT) (o .ints);
+        queue = o .queue;
+        request = refl;
+      }
+
+  failed-shows : (r : Option Request) → Shows s (withRequest r (failed (o .base))) true false false (isSome r)
+  failed-shows r =
+      record {
+        retryfail = has-set x RETRYFAIL;
+        softfail = has-other SOFTFAIL x RETRYFAIL refl ∙ has-none SOFTFAIL x (o .softfail);
+        i-retryfail = has-set i I-RETRYFAIL;
+        i-softfail = has-other I-SOFTFAIL i I-RETRYFAIL refl ∙ ap (has I-SOFTFAIL) (o .ints);
+        i-hardsent = has-other I-HARDSENT i I-RETRYFAIL refl ∙ ap (has I-HARDSENT) (o .ints);
+        queue = refl;
+        request = refl;
+      }
+
+  soft-shows : Shows s (softFailed (failed (o .base))) true true false false
+  soft-shows =
+      let m = failed-shows none in
+      let y = bitOr x RETRYFAIL in
+      let j = bitOr i I-RETRYFAIL in
+      record {
+        retryfail = has-other RETRYFAIL y SOFTFAIL refl ∙ m .retryfail;
+        softfail = has-set y SOFTFAIL;
+        i-retryfail = has-other I-RETRYFAIL j I-SOFTFAIL refl ∙ m .i-retryfail;
+        i-softfail = has-set j I-SOFTFAIL;
+        i-hardsent = has-other I-HARDSENT j I-SOFTFAIL refl ∙ m .i-hardsent;
+        queue = refl;
+        request = refl;
+      }
+
+  hard-shows : Shows s (raisesA I-HARDSENT (softFailed (failed (o .base)))) true true true false
+  hard-shows =
+      let m = soft-shows in
+      let k = bitOr (bitOr i I-RETRYFAIL) I-SOFTFAIL in
+      record {
+        retryfail = m .retryfail;
+        softfail = m .softfail;
+        i-retryfail = has-other I-RETRYFAIL k I-HARDSENT refl ∙ m .i-retryfail;
+        i-softfail = has-other I-SOFTFAIL k I-HARDSENT refl ∙ m .i-softfail;
+        i-hardsent = has-set k I-HARDSENT;
+        queue = refl;
+        request = refl;
+      }
+
+  module _ (q : Request) where
+    -- by whether the time of the message and that of the Soft_Reset are over
+    abbrev ShowsBy : State → Bool → Bool → Type 0
+    ShowsBy u first second =
+        Shows s u first (second && q .soft) ((second && q .soft) && q .hard) (not first || (q .soft && not (second && q .soft)))
+
+    stage-shows : {n : ℕ} {u : State} {fs : List Frame} → Stage q f (o .base) n u fs → ShowsBy u (leb (endOf q) n) (leb (endOf q + endOf q) n)
+    stage-shows (sending k w {n} few short is) =
+        rw (lt-leb (endOf q) n (omega arith), lt-leb (endOf q + endOf q) n (omega arith)) (sending-shows _)
+    stage-shows (resetting k w {n} soft few short is) =
+        rw (le-leb (endOf q) n (omega arith), lt-leb (endOf q + endOf q) n (omega arith), soft) (failed-shows (some _))
+    stage-shows (message-over {n} soft h) =
+        rw (le-leb (endOf q) n h, soft, and-none (leb (endOf q + endOf q) n)) (failed-shows none)
+    stage-shows (reset-over {n} soft hard h) =
+        rw (le-leb (endOf q) n (omega arith), le-leb (endOf q + endOf q) n h, soft, hard) soft-shows
+    stage-shows (hard-reset {n} soft hard h) =
+        rw (le-leb (endOf q) n (omega arith), le-leb (endOf q + endOf q) n h, soft, hard) hard-shows
+
 -- ---- 5. Retries are real
 
 module _ (s : State) (e : Event) (f : Frame) (room : ℕ) (enough : frameRoom ≤ room) (st : Started s e f) where
-  -- the start and n retries
-  started-runs : (n : ℕ) → n ≤ latched s .retries
-      → Ran s (e ∷ waits room n) (at message n (latched s) (opened s e f st .base)) (replicate (suc n) f)
-  unfolding flightIn
-  started-runs n h =
+  started-runs : (ns : List ℕ) → AllParts ns
+      → Stage (latched s) f (opened s e f st .base) (inAll ns) (after s (e ∷ passing room ns)) (frames s (e ∷ passing room ns))
+  started-runs ns parts =
       let o = opened s e f st in
-      let count : 0 + n ≡ n = omega arith in
-      goes (o .is) (st .sent) (rw count at (resends room enough message (latched s) (o .base) f (λ k. o .spells) n 0 (omega arith)))
-
-  -- while there are retries to send, the next wait sends one
-  pub next-sent : (n : ℕ) → n < latched s .retries → step (after s (e ∷ waits room n)) (pass room wait) .frames ≡ f ∷ []
-  unfolding flightIn
-  next-sent n h =
-      let o = opened s e f st in
-      let sent = again message n (latched s) (o .base) f (o .spells) h in
-      rw (started-runs n (omega arith) .state) (wait-step room enough (at message n (latched s) (o .base)) _ sent .1)
-
-pub sent-again : SentAgain
-sent-again s e f room n enough st h = started-runs s e f room enough st n h .sent
+      let first : Stage (latched s) f (o .base) 0 (step s e .state) (f ∷ []) = rw (o .is) (sending 0 0 {n = 0} (omega arith) (omega arith) refl) in
+      let then = first-then s e (passing room ns) refl (st .sent) in
+      let sum : 0 + inAll ns ≡ inAll ns = omega arith in
+      rw (then .0, then .1) (rw sum at (stage-runs (latched s) f (o .base) (o .spells) room enough ns parts first))
 
 pub sent-to-the-end : SentToTheEnd
-sent-to-the-end s e f room enough st =
-    let q = latched s in
-    let r = q .retries in
-    let end = joins-end (started-runs s e f room enough st r (omega arith)) (message-ends room enough q (opened s e f st .base)) in
-    let count : r + suc (r + 1) ≡ suc r + suc r = omega arith in
-    let ran = rw (replicate-append-replicate, count) at (end .ran) in
-    (ran .sent, ap (λ (t : State). t .request) (ran .state) ∙ end .ended)
+sent-to-the-end s e f room ns enough parts st = stage-sent (latched s) f _ (started-runs s e f room enough st ns parts)
+
+pub fails-exactly : FailsExactly
+fails-exactly s e f room ns enough parts st = stage-shows s f _ (opened s e f st) (latched s) (started-runs s e f room enough st ns parts)
+
+-- ---- while there are retries to send, the next wait sends one
+
+-- before its last wait a request has so many waits of the message behind it
+stage-again : (q : Request) (f : Frame) (base : State) → spelt (base .tx) ≡ some f → {n : ℕ} {t : State} {fs : List Frame} → Stage q f base n t fs
+    → (k : ℕ) → n ≡ k * wait → k < q .retries → passes wait (t .request) t .frames ≡ f ∷ []
+unfolding passes elapses expires flightIn
+stage-again q f base spells (sending j w few short is) k at more =
+    rw (le-ltb (w + wait) wait (omega arith), lt-ltb j (q .retries) (omega arith), spells) refl
+stage-again q f base spells (resetting j w soft few short is) k at more = absurd (omega arith)
+stage-again q f base spells (message-over soft h) k at more = absurd (omega arith)
+stage-again q f base spells (reset-over soft hard h) k at more = absurd (omega arith)
+stage-again q f base spells (hard-reset soft hard h) k at more = absurd (omega arith)
+
+all-waits : (n : ℕ) → AllParts (replicate n wait) × (inAll (replicate n wait) ≡ n * wait)
+all-waits zero = (tt, refl)
+all-waits (suc n) = let rest = all-waits n in ((omega arith, rest .0), omega (arith, rest .1))
+
+pub next-sent : (s : State) (e : Event) (f : Frame) (room : ℕ) → frameRoom ≤ room → Started s e f → (n : ℕ) → n < latched s .retries
+    → step (after s (e ∷ waits room n)) (pass room wait) .frames ≡ f ∷ []
+next-sent s e f room enough st n more =
+    let parts = all-waits n in
+    let o = opened s e f st in
+    pass-step _ room wait enough (omega arith) .1
+    ∙ stage-again (latched s) f (o .base) (o .spells) (started-runs s e f room enough st (replicate n wait) (parts .0)) n (parts .1) more

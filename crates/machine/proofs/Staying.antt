@@ -83,7 +83,7 @@ use Rattle.machine.specs.Requests.{
   passes,
   acknowledged,
 }
-use Rattle.machine.specs.Packets.{kindOn, hasRoom, repliesTo, rxToken, when, awaited, softResetHeard, noted, keeps, stores, accepts, hears}
+use Rattle.machine.specs.Packets.{kindOn, fitsRx, repliesTo, rxToken, onlyIf, awaited, softResetHeard, noted, keeps, stores, accepts, hears}
 use Rattle.machine.specs.Events.{Event, write, read, pass, hardReset as heardReset, packet, Fits}
 use Rattle.machine.specs.Refusals.{
   txStart,
@@ -118,7 +118,7 @@ use Rattle.machine.specs.Step.{
   after,
 }
 use Rattle.machine.specs.Good.{RequestGood, OpenGood, Good}
-use Rattle.machine.specs.Theorems.{AllFit, NoneApplies, PowerUpGood, StaysGood, AlwaysGood, OneFrame, WholeFrames}
+use Rattle.machine.specs.Theorems.{AllFit, NoneApplies, StaysGood, AlwaysGood, OneFrame, WholeFrames}
 use Rattle.machine.proofs.Masks.{within-le, cells-at}
 use Rattle.machine.proofs.Refusing.{first-none-exactly}
 use Rattle.machine.proofs.Spelling.{spelt-whole}
@@ -259,7 +259,7 @@ token-octet (suc (suc (suc (suc zero)))) = omega arith
 token-octet (suc (suc (suc (suc (suc k))))) = omega arith
 
 module _ (k : ℕ) (m : List ℕ) (kind : k < sopKinds) (octets : Octets m) where
-  kept : (s : State) → Good s → hasRoom m s ≡ true → Good (keeps k m s)
+  kept : (s : State) → Good s → fitsRx m s ≡ true → Good (keeps k m s)
   unfolding keeps
   kept s g h =
       let q = s .rx ++ (rxToken k ∷ m) in
@@ -267,7 +267,7 @@ module _ (k : ℕ) (m : List ℕ) (kind : k < sopKinds) (octets : Octets m) wher
       let t = keeps-kind _ (keeps-rx s g q (octets-append (s .rx) (rxToken k ∷ m) (g .rx) (token-octet k, octets)) n) k kind in
       keeps-when _ t (rxFull (withRx q s)) (raises I-ALERT) (keeps-raises _ t I-ALERT refl)
 
-  stores-fine : (s : State) → Good s → hasRoom m s ≡ true → Fine (stores k m s)
+  stores-fine : (s : State) → Good s → fitsRx m s ≡ true → Fine (stores k m s)
   unfolding stores
   stores-fine s g h =
       let t = kept s g h in
@@ -281,7 +281,7 @@ module _ (k : ℕ) (m : List ℕ) (kind : k < sopKinds) (octets : Octets m) wher
       let a = keeps-raises _ (keeps-crc-chk s g true) I-CRC-CHK refl in
       let b = keeps-when _ a (awaited k m s) acknowledged (keeps-raises-a _ (keeps-over _ a) I-TXSENT refl) in
       let c = keeps-when _ b (isControl Soft-Reset m) softResetHeard (keeps-raises-a _ (keeps-shows _ b SOFTRST refl) I-SOFTRST refl) in
-      by-test (hasRoom m (noted k m s)) _ _ (λ e. stores-fine (noted k m s) c e) (λ e. quiet _ (keeps-raises _ c I-ALERT refl))
+      by-test (fitsRx m (noted k m s)) _ _ (λ e. stores-fine (noted k m s) c e) (λ e. quiet _ (keeps-raises _ c I-ALERT refl))
 
   hears-fine : (s : State) → Good s → Fine (hears k m s)
   unfolding hears
@@ -336,7 +336,7 @@ module _ (s : State) (g : Good s) (room v : ℕ) (octet : v < 256) where
       (λ e. start-fine _ u (flushed (has TX-FLUSH v) (not-false _ (sym (ap (λ (b : Bool). (b || false) && not (isMessage (queueAt s control0 v))) e) ∙ rows .1 .1 .1 .1 .1 .1 .0))))
       (λ e. quiet _ u)
     where
-      flushed : (b : Bool) → isMessage (cond b [] (s .tx)) ≡ true → isMessage (when b over (withCells (stored control0 v (s .cells)) s) .tx) ≡ true
+      flushed : (b : Bool) → isMessage (cond b [] (s .tx)) ≡ true → isMessage (onlyIf b over (withCells (stored control0 v (s .cells)) s) .tx) ≡ true
       flushed true h = h
       flushed false h = h
 
@@ -404,9 +404,6 @@ from-good : (s : State) → Good s → (es : List Event) → AllFit es → Good 
 unfolding after
 from-good s g [] f = g
 from-good s g (e ∷ es) f = from-good (step s e .state) (stays-good s e g (f .0)) es (f .1)
-
-pub power-up : PowerUpGood
-power-up = power-up-good
 
 pub always-good : AlwaysGood
 always-good = from-good powerUp power-up-good

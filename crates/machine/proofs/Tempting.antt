@@ -39,7 +39,7 @@ use Rattle.machine.specs.Requests.{
   passes,
   acknowledged,
 }
-use Rattle.machine.specs.Packets.{kindOn, hasRoom, awaited, repliesTo, rxToken, when, checks, softResetHeard, noted, keeps, stores, accepts, hears}
+use Rattle.machine.specs.Packets.{kindOn, fitsRx, awaited, repliesTo, rxToken, onlyIf, checks, softResetHeard, noted, keeps, stores, accepts, hears}
 use Rattle.machine.specs.Events.{pass, packet}
 use Rattle.machine.specs.Refusals.{no12, no1, no2, no6, no3, no5, no4, no7, no8, no11, no9, no10, refusal}
 use Rattle.machine.specs.Step.{queues, accepted, resultOf, step, after, frames}
@@ -56,6 +56,7 @@ use Rattle.machine.specs.Theorems.{
 }
 use Rattle.machine.proofs.Masks.{Set, set-by, stays-set, outside, cells-at}
 use Rattle.machine.proofs.Messages.{stored-step}
+use Rattle.machine.proofs.Retrying.{pass-step}
 
 -- ---- data
 
@@ -63,7 +64,7 @@ queued-tx : (s : State) (v : ℕ) → queues v s .tx ≡ s .tx ++ (v ∷ [])
 unfolding queues
 queued-tx s v = go (txFull (withTx (s .tx ++ (v ∷ [])) s))
   where
-    go : (b : Bool) → when b (raises I-ALERT) (withTx (s .tx ++ (v ∷ [])) s) .tx ≡ s .tx ++ (v ∷ [])
+    go : (b : Bool) → onlyIf b (raises I-ALERT) (withTx (s .tx ++ (v ∷ [])) s) .tx ≡ s .tx ++ (v ∷ [])
     go true = refl
     go false = refl
 
@@ -91,7 +92,7 @@ good-crc-not-answered s room k m e = go (refusal s (packet room k m))
     go (some n) = refl
     go none =
         quiet-cond (kindOn k s) _ _
-        (quiet-cond (crcRight m) _ _ (quiet-cond (hasRoom m (noted k m s)) _ _ (stores-silent k m (noted k m s) e) refl) refl)
+        (quiet-cond (crcRight m) _ _ (quiet-cond (fitsRx m (noted k m s)) _ _ (stores-silent k m (noted k m s) e) refl) refl)
         refl
 
 -- what storing or dropping a packet leaves: queue, request and 3E; bits of 42 stay set
@@ -101,7 +102,7 @@ record Leaves (s t : State) : Type 0 where
   a : t .ints .a ≡ s .ints .a
   main : (m : ℕ) → Set m (s .ints .main) → Set m (t .ints .main)
 
-alerts : (s t : State) → Leaves s t → (b : Bool) → Leaves s (when b (raises I-ALERT) t)
+alerts : (s t : State) → Leaves s t → (b : Bool) → Leaves s (onlyIf b (raises I-ALERT) t)
 alerts s t h true =
     record { tx = h .tx; request = h .request; a = h .a; main = λ m z. stays-set m (t .ints .main) I-ALERT (h .main m z) }
 alerts s t h false = h
@@ -134,7 +135,7 @@ stores-leaves k m s = go (repliesTo m s)
 accepts-leaves : (k : ℕ) (m : List ℕ) (s : State) → Leaves (noted k m s) (accepts k m s .state)
 unfolding accepts
 accepts-leaves k m s =
-    leaves-cond (noted k m s) (hasRoom m (noted k m s)) _ _ (stores-leaves k m (noted k m s)) (alerts (noted k m s) _ (same (noted k m s)) true)
+    leaves-cond (noted k m s) (fitsRx m (noted k m s)) _ _ (stores-leaves k m (noted k m s)) (alerts (noted k m s) _ (same (noted k m s)) true)
 
 heard : (s : State) (room k : ℕ) (m : List ℕ) → HeardRight s room k m → step s (packet room k m) .state ≡ accepts k m s .state
 unfolding step resultOf accepted hears
@@ -149,15 +150,15 @@ record Noted (t : State) : Type 0 where
 acknowledges : (k : ℕ) (m : List ℕ) (s : State) → awaited k m s ≡ true → Noted (noted k m s)
 acknowledges k m s e = go (isControl Soft-Reset m)
   where
-    ended : Noted (when (awaited k m s) acknowledged (checks s))
+    ended : Noted (onlyIf (awaited k m s) acknowledged (checks s))
     ended = rw e (record { request = refl; tx = refl; a = set-by (s .ints .a) I-TXSENT })
 
-    go : (b : Bool) → Noted (when b softResetHeard (when (awaited k m s) acknowledged (checks s)))
+    go : (b : Bool) → Noted (onlyIf b softResetHeard (onlyIf (awaited k m s) acknowledged (checks s)))
     go true =
         record {
           request = ended .request;
           tx = ended .tx;
-          a = stays-set I-TXSENT (when (awaited k m s) acknowledged (checks s) .ints .a) I-SOFTRST (ended .a);
+          a = stays-set I-TXSENT (onlyIf (awaited k m s) acknowledged (checks s) .ints .a) I-SOFTRST (ended .a);
         }
     go false = ended
 
@@ -172,7 +173,7 @@ awaited-ends s room k m h e =
 checks-crc : (k : ℕ) (m : List ℕ) (s : State) → Set I-CRC-CHK (noted k m s .ints .main)
 checks-crc k m s = go (isControl Soft-Reset m) (awaited k m s)
   where
-    go : (b c : Bool) → Set I-CRC-CHK (when b softResetHeard (when c acknowledged (checks s)) .ints .main)
+    go : (b c : Bool) → Set I-CRC-CHK (onlyIf b softResetHeard (onlyIf c acknowledged (checks s)) .ints .main)
     go true true = set-by (s .ints .main) I-CRC-CHK
     go true false = set-by (s .ints .main) I-CRC-CHK
     go false true = set-by (s .ints .main) I-CRC-CHK
@@ -226,10 +227,6 @@ latched-governs s cells room n = go (refusal s (pass room n))
     go none = let a = passes-alike s cells n (s .request) refl in (a .frames, a .request)
 
 -- ---- time: two parts are one
-
-taken-pass : (s : State) (room n : ℕ) → frameRoom ≤ room → n ≤ wait → refusal s (pass room n) ≡ none
-unfolding refusal firstNo no12 no1 no2 no6 no3 no5 no4 no7 no8 no11 no9 no10
-taken-pass s room n h k = simp (le-ltb room frameRoom h, le-ltb 1000 n k)
 
 -- an effect, and then m microseconds
 onward : ℕ → Effect → Effect
@@ -312,18 +309,12 @@ passes-onward s n m h (some q) g e =
     let w = g .waited in
     elapses-onward m s q (q .waited + n) (omega arith) ∙ ap (λ (t : ℕ). elapses t q s) (omega arith)
 
--- a time event that is taken
-passed : (s : State) (room n : ℕ) → frameRoom ≤ room → n ≤ wait
-    → (step s (pass room n) .state ≡ passes n (s .request) s .state) × (step s (pass room n) .frames ≡ passes n (s .request) s .frames)
-unfolding step resultOf accepted
-passed s room n enough h = (rw (taken-pass s room n enough h) refl, rw (taken-pass s room n enough h) refl)
-
 pub time-adds : TimeAdds
 unfolding after frames onward
 time-adds s room n m g enough h =
-    let a = passed s room n enough (omega arith) in
-    let b = passed (step s (pass room n) .state) room m enough (omega arith) in
-    let c = passed s room (n + m) enough h in
+    let a = pass-step s room n enough (omega arith) in
+    let b = pass-step (step s (pass room n) .state) room m enough (omega arith) in
+    let c = pass-step s room (n + m) enough h in
     let t = passes-onward s n m h (s .request) (g .request) refl in
     let next : State → Effect = λ u. passes m (u .request) u in (
       b .0 ∙ ap (λ (u : State). next u .state) (a .0) ∙ ap (λ (x : Effect). x .state) t ∙ sym (c .0),

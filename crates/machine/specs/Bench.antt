@@ -25,18 +25,18 @@ allTaken (done ∷ rs) = allTaken rs
 allTaken (value v ∷ rs) = allTaken rs
 allTaken (no n ∷ rs) = false
 
-abbrev pub Holds : Case → Type 0
-Holds (device given e r symbols tx rx) =
+abbrev pub CaseHolds : Case → Type 0
+CaseHolds (device given e r symbols tx rx) =
     (allTaken (replies powerUp given) ≡ true)
     × (step (after powerUp given) e .reply ≡ r)
     × (joined (step (after powerUp given) e .frames) ≡ symbols)
     × (step (after powerUp given) e .state .tx ≡ tx)
     × (length (step (after powerUp given) e .state .rx) ≡ rx)
-Holds (reader line said) = saysOf 0 (first line) ≡ said
+CaseHolds (reader line said) = saysOf 0 (first line) ≡ said
 
 abbrev pub AllHold : List Case → Type 0
 AllHold [] = Unit {0}
-AllHold (c ∷ cs) = Holds c × AllHold cs
+AllHold (c ∷ cs) = CaseHolds c × AllHold cs
 
 -- ---- events, each with room for a frame
 
@@ -96,3 +96,7 @@ cases =
     ∷ reader [] (noAt 14 0)
     ∷ reader (0x18 ∷ 0x18 ∷ 0x11 ∷ []) (noAt 13 2)
     ∷ []
+
+-- all of them hold
+abbrev pub Benched : Type 0
+Benched = AllHold cases

@@ -35,8 +35,8 @@ unfoldable pub kindOn : ℕ → State → Bool
 kindOn k s = cond (eqb k 0) true (has (enables k) (reg control1 s))
 
 -- token and octets fit
-abbrev pub hasRoom : List ℕ → State → Bool
-hasRoom m s = leb (length (s .rx) + suc (length m)) rxRoom
+abbrev pub fitsRx : List ℕ → State → Bool
+fitsRx m s = leb (length (s .rx) + suc (length m)) rxRoom
 
 -- a GoodCRC of the kind and MessageID of the frame that is in flight
 abbrev pub answers : ℕ → List ℕ → Option Frame → Bool
@@ -63,8 +63,8 @@ abbrev pub rxToken : ℕ → ℕ
 rxToken k = getD (0xE0 ∷ 0xC0 ∷ 0xA0 ∷ 0x80 ∷ 0x60 ∷ []) k 0
 
 -- a condition's effect on the state, or none
-abbrev pub when : Bool → (State → State) → State → State
-when b f s = cond b (f s) s
+abbrev pub onlyIf : Bool → (State → State) → State → State
+onlyIf b f s = cond b (f s) s
 
 abbrev pub checks : State → State
 checks s = raises I-CRC-CHK (withCrcChk true s)
@@ -73,7 +73,7 @@ abbrev pub softResetHeard : State → State
 softResetHeard s = raisesA I-SOFTRST (shows SOFTRST s)
 
 unfoldable pub keeps : ℕ → List ℕ → State → State
-keeps k m s = let t = withKind k (withRx (s .rx ++ (rxToken k ∷ m)) s) in when (rxFull t) (raises I-ALERT) t
+keeps k m s = let t = withKind k (withRx (s .rx ++ (rxToken k ∷ m)) s) in onlyIf (rxFull t) (raises I-ALERT) t
 
 -- the GoodCRC goes by Switches1 as it stands
 unfoldable pub stores : ℕ → List ℕ → State → Effect
@@ -83,10 +83,10 @@ stores k m s =
 
 -- its CRC is right: whether it is stored or not, an awaited GoodCRC ends the request, and a Soft_Reset is shown
 abbrev pub noted : ℕ → List ℕ → State → State
-noted k m s = when (isControl Soft-Reset m) softResetHeard (when (awaited k m s) acknowledged (checks s))
+noted k m s = onlyIf (isControl Soft-Reset m) softResetHeard (onlyIf (awaited k m s) acknowledged (checks s))
 
 unfoldable pub accepts : ℕ → List ℕ → State → Effect
-accepts k m s = let t = noted k m s in cond (hasRoom m t) (stores k m t) (silent (raises I-ALERT t))
+accepts k m s = let t = noted k m s in cond (fitsRx m t) (stores k m t) (silent (raises I-ALERT t))
 
 unfoldable pub hears : ℕ → List ℕ → State → Effect
 hears k m s = cond (kindOn k s) (cond (crcRight m) (accepts k m s) (silent (withCrcChk false s))) (silent s)

@@ -28,7 +28,7 @@ use Rattle.machine.specs.Registers.{
 use Rattle.machine.specs.State.{State, powerUp, cleared, reg, withCells, withTx, withRx, withStatus, withInts, raises}
 use Rattle.machine.specs.Status.{txFull, I-ALERT, shown, clearedAt}
 use Rattle.machine.specs.Requests.{Effect, silent, over, start, sendHardReset, hardResetHeard, passes}
-use Rattle.machine.specs.Packets.{when, hears}
+use Rattle.machine.specs.Packets.{onlyIf, hears}
 use Rattle.machine.specs.Events.{Event, write, read, pass, hardReset, packet, Reply, done, value, no}
 use Rattle.machine.specs.Refusals.{portStart, refusal}
 
@@ -43,21 +43,21 @@ unfoldable pub pdReset : State → State
 pdReset s = withRx [] (withStatus cleared (over s))
 
 unfoldable pub queues : ℕ → State → State
-queues v s = let t = withTx (s .tx ++ (v ∷ [])) s in when (txFull t) (raises I-ALERT) t
+queues v s = let t = withTx (s .tx ++ (v ∷ [])) s in onlyIf (txFull t) (raises I-ALERT) t
 
 -- TX_FLUSH acts before TX_START
 unfoldable pub control0Written : ℕ → State → Effect
-control0Written v s = let t = when (has TX-FLUSH v) over s in cond (has TX-START v) (start t) (silent t)
+control0Written v s = let t = onlyIf (has TX-FLUSH v) over s in cond (has TX-START v) (start t) (silent t)
 
 unfoldable pub control1Written : ℕ → State → Effect
-control1Written v s = silent (when (has RX-FLUSH v) (withRx []) s)
+control1Written v s = silent (onlyIf (has RX-FLUSH v) (withRx []) s)
 
 unfoldable pub control3Written : ℕ → State → Effect
 control3Written v s = cond (has SEND-HARD-RESET v) (sendHardReset s) (silent s)
 
 -- SW_RES wins over PD_RESET
 unfoldable pub resetWritten : ℕ → State → Effect
-resetWritten v s = silent (cond (has SW-RES v) (restored s) (when (has PD-RESET v) pdReset s))
+resetWritten v s = silent (cond (has SW-RES v) (restored s) (onlyIf (has PD-RESET v) pdReset s))
 
 unfoldable pub portWritten : ℕ → State → Effect
 portWritten v s = cond (portStart s fifos v) (start s) (silent (queues v s))

@@ -1,23 +1,28 @@
 -- What holds of the machine; proofs/ has the proof of each statement. Bench.antt has the table of worked cases.
 -- Assumes nothing.
 use mathlib.Core.Path.{_≡_}
-use mathlib.Core.Bool.{true, false, cond}
+use mathlib.Core.Bool.{Bool, true, false, not, cond, _&&_, _||_}
 use mathlib.Core.List.{List, [], _∷_, _++_, map}
 use mathlib.Core.Logic.{_↔_, _⊎_}
 use mathlib.Core.Option.{none, some}
-use Prim.Native.Nat.{ℕ, suc, _+_, _<_, _≤_}
-use lib.ListN.{length, replicate}
+use Prim.Native.Nat.{ℕ, suc, _+_, _*_, _/_, _<_, _≤_}
+use lib.Dec.{leb, eqb}
+use lib.ListN.{length, take, replicate}
 use Rattle.line.specs.Kind.{sopKinds, setOf}
 use Rattle.line.specs.Frame.{Frame, Whole, AllWhole, joined}
 use Rattle.line.specs.Crc.{crcRight}
 use Rattle.line.specs.Refusal.{Row}
 use Rattle.line.specs.Write.{frameRoom}
 use Rattle.machine.specs.Registers.{
+  stored,
   switches1,
   control0,
   control1,
   control3,
+  mask,
   reset,
+  maska,
+  maskb,
   fifos,
   has,
   TX-FLUSH,
@@ -28,12 +33,21 @@ use Rattle.machine.specs.Registers.{
   SW-RES,
 }
 use Rattle.machine.specs.State.{Request, State, powerUp, reg, withCells}
-use Rattle.machine.specs.Status.{txRoom, I-TXSENT, I-CRC-CHK}
+use Rattle.machine.specs.Status.{
+  txRoom,
+  SOFTFAIL,
+  RETRYFAIL,
+  I-SOFTFAIL,
+  I-RETRYFAIL,
+  I-HARDSENT,
+  I-TXSENT,
+  I-CRC-CHK,
+}
 use Rattle.machine.specs.Queue.{START, closing, setSymbol, inside, spelt}
 use Rattle.machine.specs.Headers.{GoodCRC, isControl}
-use Rattle.machine.specs.Requests.{wait, hardReset, driverOn, softResetOf, latched}
+use Rattle.machine.specs.Requests.{wait, hardReset, opened, driverOn, softResetOf, latched}
 use Rattle.machine.specs.Packets.{kindOn, awaited}
-use Rattle.machine.specs.Events.{Event, write, read, pass, packet, Fits, Reply, no, value}
+use Rattle.machine.specs.Events.{Event, write, read, pass, packet, Fits, Reply, no, value, onRead}
 use Rattle.machine.specs.Refusals.{starts, table, refusal}
 use Rattle.machine.specs.Step.{Result, step, after, frames, recordOf}
 use Rattle.machine.specs.Good.{Good}
@@ -80,25 +94,25 @@ abbrev pub RefusalChangesNothing : Type 0
 RefusalChangesNothing = (s : State) (e : Event) (n : ℕ) → step s e .reply ≡ no n → (step s e .state ≡ s) × (step s e .frames ≡ [])
 
 -- an event after some history is refused with this number
-pub record Given (n : ℕ) : Type 0 where
+pub record GivenAfter (n : ℕ) : Type 0 where
   pub history : List Event
   pub event : Event
   pub fits : AllFit history × Fits event
   pub refused : step (after powerUp history) event .reply ≡ no n
 
 pub record EachNumberGiven : Type 0 where
-  pub no-12 : Given 12
-  pub no-1 : Given 1
-  pub no-2 : Given 2
-  pub no-6 : Given 6
-  pub no-3 : Given 3
-  pub no-5 : Given 5
-  pub no-4 : Given 4
-  pub no-7 : Given 7
-  pub no-8 : Given 8
-  pub no-11 : Given 11
-  pub no-9 : Given 9
-  pub no-10 : Given 10
+  pub no-12 : GivenAfter 12
+  pub no-1 : GivenAfter 1
+  pub no-2 : GivenAfter 2
+  pub no-6 : GivenAfter 6
+  pub no-3 : GivenAfter 3
+  pub no-5 : GivenAfter 5
+  pub no-4 : GivenAfter 4
+  pub no-7 : GivenAfter 7
+  pub no-8 : GivenAfter 8
+  pub no-11 : GivenAfter 11
+  pub no-9 : GivenAfter 9
+  pub no-10 : GivenAfter 10
 
 -- two rows apply to an event after some history, and the first number is given
 pub record GivenBefore (n m : ℕ) : Type 0 where
@@ -147,18 +161,23 @@ pub record Spells (q : List ℕ) (f : Frame) : Type 0 where
 abbrev pub SpeltExactly : Type 0
 SpeltExactly = (q : List ℕ) (f : Frame) → (spelt q ≡ some f) ↔ Spells q f
 
--- ---- 5. Retries are real
+-- ---- 5. Retries are real, and a request fails exactly when 01 says ('Start')
+
+-- microseconds pass, in parts that time events may carry
+abbrev pub passing : ℕ → List ℕ → List Event
+passing room ns = map (pass room) ns
+
+abbrev pub AllParts : List ℕ → Type 0
+AllParts [] = Unit {0}
+AllParts (n ∷ ns) = (n ≤ wait) × AllParts ns
+
+abbrev pub inAll : List ℕ → ℕ
+inAll [] = 0
+inAll (n ∷ ns) = n + inAll ns
 
 -- so many waits run out, and nothing else happens
 abbrev pub waits : ℕ → ℕ → List Event
-waits room n = replicate n (pass room wait)
-
--- what follows the message: Soft_Resets if AUTO_SOFTRESET was latched, and then a Hard Reset if AUTO_HARDRESET was
-abbrev pub sequel : Request → List Frame
-sequel q =
-    cond (q .soft)
-    (replicate (suc (q .retries)) (softResetOf q) ++ cond (q .hard) (hardReset ∷ []) [])
-    []
+waits room n = passing room (replicate n wait)
 
 -- an accepted start, by the token or by TX_START
 pub record Started (s : State) (e : Event) (f : Frame) : Type 0 where
@@ -170,19 +189,40 @@ pub record Started (s : State) (e : Event) (f : Frame) : Type 0 where
   pub taken : refusal s e ≡ none
   pub sent : step s e .frames ≡ f ∷ []
 
--- the frame at 0, 1,000 .. microseconds, r + 1 times in all
-abbrev pub SentAgain : Type 0
-SentAgain =
-    (s : State) (e : Event) (f : Frame) (room n : ℕ) → frameRoom ≤ room → Started s e f → n ≤ latched s .retries
-    → frames s (e ∷ waits room n) ≡ replicate (suc n) f
+-- what follows the message: Soft_Resets if AUTO_SOFTRESET was latched, and then a Hard Reset if AUTO_HARDRESET was
+abbrev pub sequel : Request → List Frame
+sequel q =
+    cond (q .soft)
+    (replicate (suc (q .retries)) (softResetOf q) ++ cond (q .hard) (hardReset ∷ []) [])
+    []
 
--- then what was latched says, r + 1 times again, and the request is over
+-- while nobody answers, one frame leaves at the start and one at each 1,000 microseconds: the message r + 1 times, and then its sequel
 abbrev pub SentToTheEnd : Type 0
 SentToTheEnd =
-    (s : State) (e : Event) (f : Frame) (room : ℕ) → frameRoom ≤ room → Started s e f
-    → let r = suc (latched s .retries) in
-    (frames s (e ∷ waits room (r + r)) ≡ replicate r f ++ sequel (latched s))
-    × (after s (e ∷ waits room (r + r)) .request ≡ none)
+    (s : State) (e : Event) (f : Frame) (room : ℕ) (ns : List ℕ) → frameRoom ≤ room → AllParts ns → Started s e f
+    → frames s (e ∷ passing room ns)
+    ≡ take (suc (inAll ns / wait)) (replicate (suc (latched s .retries)) f ++ sequel (latched s))
+
+-- what a start in s has come to in t: whether the message failed, the Soft_Reset failed, a Hard Reset left, and the request is open.
+-- An interrupt that was set before stays; none of these bits is set but by that
+pub record Shows (s t : State) (failed softFailed hardSent goesOn : Bool) : Type 0 where
+  pub retryfail : has RETRYFAIL (t .status .status0a) ≡ failed
+  pub softfail : has SOFTFAIL (t .status .status0a) ≡ softFailed
+  pub i-retryfail : has I-RETRYFAIL (t .ints .a) ≡ (failed || has I-RETRYFAIL (s .ints .a))
+  pub i-softfail : has I-SOFTFAIL (t .ints .a) ≡ (softFailed || has I-SOFTFAIL (s .ints .a))
+  pub i-hardsent : has I-HARDSENT (t .ints .a) ≡ (hardSent || has I-HARDSENT (s .ints .a))
+  pub queue : t .tx ≡ cond failed [] (s .tx)
+  pub request : opened t ≡ goesOn
+
+-- the message fails at (r + 1) times 1,000 microseconds, the Soft_Reset at twice that, and neither earlier
+abbrev pub FailsExactly : Type 0
+FailsExactly =
+    (s : State) (e : Event) (f : Frame) (room : ℕ) (ns : List ℕ) → frameRoom ≤ room → AllParts ns → Started s e f
+    → let q = latched s in
+    let end = suc (q .retries) * wait in
+    let failed = leb end (inAll ns) in
+    let softFailed = leb (end + end) (inAll ns) && q .soft in
+    Shows s (after s (e ∷ passing room ns)) failed softFailed (softFailed && q .hard) (not failed || (q .soft && not softFailed))
 
 -- ---- 6. Models that 01 shuts out ('How tight each promise is')
 
@@ -274,11 +314,28 @@ AwaitedEnds =
     → (step s (packet room k m) .state .request ≡ none)
     × ((step s (packet room k m) .state .tx ≡ []) × (has I-TXSENT (step s (packet room k m) .state .ints .a) ≡ true))
 
--- whatever the masks are, what happened is recorded
+-- a packet that is taken for right is recorded
 abbrev pub Recorded : Type 0
 Recorded =
     (s : State) (room k : ℕ) (m : List ℕ) → HeardRight s room k m
     → has I-CRC-CHK (step s (packet room k m) .state .ints .main) ≡ true
+
+-- two states that differ in nothing but what Mask, Maska and Maskb hold
+abbrev pub withoutMasks : State → State
+withoutMasks s = withCells (stored mask 0 (stored maska 0 (stored maskb 0 (s .cells)))) s
+
+pub record SameButMasks (s t : State) : Type 0 where
+  pub same : withoutMasks s ≡ withoutMasks t
+
+abbrev pub isMask : ℕ → Bool
+isMask a = eqb a mask || (eqb a maska || eqb a maskb)
+
+-- whatever the masks are, the same happens, leaves and is recorded, by every event and in every interrupt bit; only who reads a mask sees it
+pub record MasksOnlyMask : Type 0 where
+  pub states : (s t : State) (e : Event) → SameButMasks s t → SameButMasks (step s e .state) (step t e .state)
+  pub recorded : (s t : State) (e : Event) → SameButMasks s t → step s e .state .ints ≡ step t e .state .ints
+  pub frames : (s t : State) (e : Event) → SameButMasks s t → step s e .frames ≡ step t e .frames
+  pub replies : (s t : State) (e : Event) → SameButMasks s t → onRead isMask e ≡ false → step s e .reply ≡ step t e .reply
 
 -- a new wait begins when the old one runs out: time in two parts is time in one
 abbrev pub TimeAdds : Type 0

@@ -23,7 +23,7 @@ use Rattle.fusb302.specs.declared.device.Device.{Device}
 use Rattle.fusb302.specs.declared.device.Reply.the-variants.{Done}
 use Rattle.fusb302.specs.declared.device.Outcome.{Outcome}
 use Rattle.fusb302.specs.View.{view, Asks}
-use Rattle.fusb302.specs.Serves.{replied, over, Serves}
+use Rattle.fusb302.specs.Serves.{replied, overlaid, Serves}
 use Rattle.fusb302.proofs.Serving.{served-symbols}
 use Rattle.script.specs.declared.parse.Line.{Line}
 use Rattle.script.specs.declared.parse.Line.the-variants.{Write, Read, Time, HardReset, Packet, Bad}
@@ -152,7 +152,7 @@ missing-is (Packet k n) os = refl
 missing-is Bad os = refl
 
 -- an array stays as long as it was, so frames fit in it
-sent-fits : (f before after : List ℕ) → after ≡ over f before → length after ≡ length before → length f ≤ length before
+sent-fits : (f before after : List ℕ) → after ≡ overlaid f before → length after ≡ length before → length f ≤ length before
 sent-fits f before after e long =
     let n = length-append f (drop (length f) before) in
     let m = ap length e in

@@ -17,7 +17,7 @@ use Rattle.fusb302.specs.declared.device.Device.{Device}
 use Rattle.fusb302.specs.declared.device.Reply.the-variants.{Done}
 use Rattle.fusb302.specs.declared.device.Outcome.{Outcome}
 use Rattle.fusb302.specs.View.{view, Asks}
-use Rattle.fusb302.specs.Serves.{over, Serves}
+use Rattle.fusb302.specs.Serves.{overlaid, Serves}
 use Rattle.script.specs.declared.parse.Line.{Line}
 use Rattle.script.specs.declared.parse.Line.the-variants.{Write, Read, Time, HardReset, Packet, Bad}
 use Rattle.script.specs.Parse.{eventOf, setupOf, octetsOf}
@@ -66,12 +66,12 @@ pub record Acts (d : Device) (e : Option Event) (number : ℕ) (lent out : List 
   pub asks : Asks (r .device)
   pub prints : Puts out at (textOf (view d) e number) (r .at) out′
   pub fits : r .at ≤ length out
-  pub symbols : sent ≡ over (joined (sentBy (view d) e)) lent
+  pub symbols : sent ≡ overlaid (joined (sentBy (view d) e)) lent
 
 -- a line is taken
 pub record Turns (d : Device) (e : Option Event) (number : ℕ) (before : Lent) (at : ℕ) (r : Turned) (after : Lent) : Type 0 where
   pub acts : Acts d e number (before .symbols) (before .out) at r (after .symbols) (after .out)
-  pub octets : after .octets ≡ over (octetsOf e) (before .octets)
+  pub octets : after .octets ≡ overlaid (octetsOf e) (before .octets)
 
 -- or, where its text need not fit, all stays as it stood and the run ends
 unfoldable pub Takes : Bool → Device → Option Event → ℕ → Lent → ℕ → Turned → Lent → Type 0

@@ -37,7 +37,9 @@ returns-6 c =
 returns-7 : tie.Need-returns-7
 unfolding Placed exists isStored readOnly
 returns-7 c =
-    let a = c .before .before .before .before .before .args .address in
+    let at-if3 = c .before in
+    let entry = at-if3 .before .before .before .before in
+    let a = entry .args .address in
     simp (le-leb 2 a (omega arith), lt-leb a 16 (omega arith), ne-eqb a 1 (omega arith), le-leb 60 a (omega arith), lt-leb a 66 (omega arith), ne-eqb a 67 (omega arith))
 
 pub place-of-spec : {M : Type 1} → statement M

@@ -25,7 +25,8 @@ shared-slice-read-if2-2 c = search needs
 
 returns-2 : tie.Need-returns-2
 returns-2 c =
-    let o = c .before .before .before .before .before .before in
+    let at-shared-slice-known3 = c .before .before in
+    let o = at-shared-slice-known3 .before .before .before .before in
     other (now (o .args .octets)) (now (o .args .set)) 1 (omega arith) (c .if2 .taken)
 
 shared-slice-read-if3 : tie.Need-shared-slice-read-if3
@@ -36,7 +37,9 @@ shared-slice-read-if3-2 c = search needs
 
 returns-3 : tie.Need-returns-3
 returns-3 c =
-    let o = c .before .before .before .before .before .before .before .before .before in
+    let at-shared-slice-known4 = c .before .before .before .before in
+    let at-shared-slice-known3 = at-shared-slice-known4 .before in
+    let o = at-shared-slice-known3 .before .before .before .before in
     other (now (o .args .octets)) (now (o .args .set)) 2 (omega arith) (c .if3 .taken)
 
 shared-slice-read-result : tie.Need-shared-slice-read-result

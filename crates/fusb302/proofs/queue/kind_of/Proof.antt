@@ -31,7 +31,9 @@ begins-requires-2 c κs = search needs
 returns-2 : tie.Need-returns-2
 unfolding kindFrom common setSymbol
 returns-2 c =
-    let l = now (c .before .before .before .before .before .before .before .args .octets) in
+    let at-if1 = c .before .before .before in
+    let entry = at-if1 .before .before .before .before in
+    let l = now (entry .args .octets) in
     (kind-is (take 4 l) 1 (sym (c .before .begins2 .ensures) ∙ c .if2 .taken), search needs)
 
 slice-aggregate-begins-3 : tie.Need-slice-aggregate-begins-3
@@ -43,7 +45,10 @@ begins-requires-3 c κs = search needs
 returns-3 : tie.Need-returns-3
 unfolding kindFrom common setSymbol
 returns-3 c =
-    let l = now (c .before .before .before .before .before .before .before .before .before .before .args .octets) in
+    let at-if2 = c .before .before .before in
+    let at-if1 = at-if2 .before .before .before in
+    let entry = at-if1 .before .before .before .before in
+    let l = now (entry .args .octets) in
     (kind-is (take 4 l) 2 (sym (c .before .begins3 .ensures) ∙ c .if3 .taken), search needs)
 
 slice-aggregate-begins-4 : tie.Need-slice-aggregate-begins-4
@@ -55,7 +60,11 @@ begins-requires-4 c κs = search needs
 returns-4 : tie.Need-returns-4
 unfolding kindFrom common setSymbol
 returns-4 c =
-    let l = now (c .before .before .before .before .before .before .before .before .before .before .before .before .before .args .octets) in
+    let at-if3 = c .before .before .before in
+    let at-if2 = at-if3 .before .before .before in
+    let at-if1 = at-if2 .before .before .before in
+    let entry = at-if1 .before .before .before .before in
+    let l = now (entry .args .octets) in
     (kind-is (take 4 l) 3 (sym (c .before .begins4 .ensures) ∙ c .if4 .taken), search needs)
 
 slice-aggregate-begins-5 : tie.Need-slice-aggregate-begins-5
@@ -67,7 +76,12 @@ begins-requires-5 c κs = search needs
 returns-5 : tie.Need-returns-5
 unfolding kindFrom common setSymbol
 returns-5 c =
-    let l = now (c .before .before .before .before .before .before .before .before .before .before .before .before .before .before .before .before .args .octets) in
+    let at-if4 = c .before .before .before in
+    let at-if3 = at-if4 .before .before .before in
+    let at-if2 = at-if3 .before .before .before in
+    let at-if1 = at-if2 .before .before .before in
+    let entry = at-if1 .before .before .before .before in
+    let l = now (entry .args .octets) in
     (kind-is (take 4 l) 4 (sym (c .before .begins5 .ensures) ∙ c .if5 .taken), search needs)
 
 returns-6 : tie.Need-returns-6

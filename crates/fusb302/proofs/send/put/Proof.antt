@@ -17,8 +17,9 @@ same-length c = search needs
 
 returns : tie.Need-returns
 returns c =
-    let start = c .before .before .before .before .before .before .before in
-    let said = rw (put-said _ _ _ _ (start .pre .0) (start .pre .1) (c .before .before .before .write-frame .ensures)) at (c .match .keys2) in
+    let at-write-frame = c .before .before .before in
+    let start = at-write-frame .before .before .before .before in
+    let said = rw (put-said _ _ _ _ (start .pre .0) (start .pre .1) (at-write-frame .write-frame .ensures)) at (c .match .keys2) in
     absurd (⊎-elim (λ a. omega arith) (⊎-elim (λ a. omega arith) (λ a. omega arith)) said)
 
 same-length-2 : tie.Need-same-length-2
@@ -26,8 +27,10 @@ same-length-2 c = search needs
 
 returns-2 : tie.Need-returns-2
 returns-2 c =
-    let start = c .before .before .before .before .before .before .before .before .before in
-    put-sent _ _ _ _ (start .pre .0) (start .pre .1) (c .before .before .before .before .before .write-frame .ensures) _ (c .before .count .given .1)
+    let at-count = c .before in
+    let at-write-frame = at-count .before .before .before .before in
+    let start = at-write-frame .before .before .before .before in
+    put-sent _ _ _ _ (start .pre .0) (start .pre .1) (at-write-frame .write-frame .ensures) _ (at-count .count .given .1)
 
 pub put-spec : {M : Type 1} → statement M
 put-spec =

@@ -17,7 +17,10 @@ same-length : tie.Need-same-length
 same-length c = search needs
 
 returns : tie.Need-returns
-returns c = rw (← c .before .before .before .before .before .control .ensures) (c .before .before .put .ensures)
+returns c =
+    let at-put = c .before .before in
+    let at-control = at-put .before .before .before in
+    rw (← at-control .control .ensures) (at-put .put .ensures)
 
 pub put-control-spec : {M : Type 1} → statement M
 put-control-spec =

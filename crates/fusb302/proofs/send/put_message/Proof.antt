@@ -14,8 +14,9 @@ enum-known-kind c = search needs
 
 add-end : tie.Need-add-end
 add-end c =
-    let start = c .before .before .before .before .before .before in
-    omega (arith, in-array (start .args .tx) _ (c .before .before .before .before .message .ensures) _ _ (c .before .before .kind .given .1), start .pre .0 .size)
+    let at-message = c .before .before .before .before in
+    let start = at-message .before .before in
+    omega (arith, in-array (start .args .tx) _ (at-message .message .ensures) _ _ (c .before .before .kind .given .1), start .pre .0 .size)
 
 sub-put : tie.Need-sub-put
 sub-put c = search needs
@@ -25,13 +26,18 @@ part-put-start c = search needs
 
 part-put-end : tie.Need-part-put-end
 part-put-end c =
-    let start = c .before .before .before .before .before .before .before in
-    in-array (start .args .tx) _ (c .before .before .before .before .before .message .ensures) _ _ (c .before .before .before .kind .given .1)
+    let at-kind = c .before .before .before in
+    let at-message = at-kind .before .before in
+    let start = at-message .before .before in
+    in-array (start .args .tx) _ (at-message .message .ensures) _ _ (at-kind .kind .given .1)
 
 put-requires : tie.Need-put-requires
 put-requires c κs =
-    let start = c .before .before .before .before .before .before .before .before .before in
-    (spelt-whole _ _ (start .pre .1) (spelt-in-array (start .args .tx) _ (c .before .before .before .before .before .before .before .message .ensures) _ _ (c .before .before .before .before .before .kind .given .1)), start .pre .2)
+    let at-octets2 = c .before .before in
+    let at-kind = at-octets2 .before .before .before in
+    let at-message = at-kind .before .before in
+    let start = at-message .before .before in
+    (spelt-whole _ _ (start .pre .1) (spelt-in-array (start .args .tx) _ (at-message .message .ensures) _ _ (at-kind .kind .given .1)), start .pre .2)
 
 enum-told : tie.Need-enum-told
 enum-told c = search needs
@@ -41,8 +47,12 @@ same-length c = search needs
 
 returns : tie.Need-returns
 returns c =
-    let start = c .before .before .before .before .before .before .before .before .before .before .before .before in
-    rw (spelt-in-array (start .args .tx) _ (c .before .before .before .before .before .before .before .before .before .before .message .ensures) _ _ (c .before .before .before .before .before .before .before .before .kind .given .1)) (c .before .before .put .ensures)
+    let at-put = c .before .before in
+    let at-octets2 = at-put .before .before .before in
+    let at-kind = at-octets2 .before .before .before in
+    let at-message = at-kind .before .before in
+    let start = at-message .before .before in
+    rw (spelt-in-array (start .args .tx) _ (at-message .message .ensures) _ _ (at-kind .kind .given .1)) (at-put .put .ensures)
 
 returns-2 : tie.Need-returns-2
 returns-2 c = unspelt (c .before .before .before .before .args .tx) _ (c .before .before .message .ensures) (c .enum-told .given .1) _

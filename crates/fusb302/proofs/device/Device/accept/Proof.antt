@@ -26,14 +26,25 @@ add-if1-2 : tie.Need-add-if1-2
 add-if1-2 c = search needs
 
 store-requires : tie.Need-store-requires
-store-requires c κs = (c .before .before .before .soft-reset .ensures .arranged, c .before .before .before .before .before .before .before .before .before .before .pre .1, c .before .before .before .before .before .before .before .before .before .before .pre .2, has-room (c .before .before .before .soft-reset .result) (c .before .before .before .soft-reset .ensures .arranged) (c .before .before .before .before .before .before .before .before .before .before .args .packet .now) (c .before .if1 .taken), c .before .before .before .before .before .before .before .before .before .before .pre .4)
+store-requires c κs =
+    let at-soft-reset = c .before .before .before in
+    let at-checked = at-soft-reset .before .before .before in
+    let entry = at-checked .before .before .before .before in
+    (at-soft-reset .soft-reset .ensures .arranged, entry .pre .1, entry .pre .2, has-room (at-soft-reset .soft-reset .result) (at-soft-reset .soft-reset .ensures .arranged) (entry .args .packet .now) (c .before .if1 .taken), entry .pre .4)
 
 same-length : tie.Need-same-length
 same-length c = search needs
 
 returns : tie.Need-returns
 returns c =
-    accepts-stores (c .before .before .before .before .before .before .before .before .before .before .before .before .before .args .self) (c .before .before .before .before .before .before .before .before .before .checked .result) (c .before .before .before .before .before .before .before .before .acknowledged .result) (c .before .before .before .before .before .before .soft-reset .result) _ _ _ _ (c .before .before .before .before .before .before .before .before .before .before .awaits .ensures) (c .before .before .before .before .before .before .before .is-control .ensures) (c .before .before .before .before .before .before .before .before .before .checked .ensures) (c .before .before .before .before .before .before .before .before .acknowledged .ensures) (c .before .before .before .before .before .before .soft-reset .ensures) (has-room (c .before .before .before .before .before .before .soft-reset .result) (c .before .before .before .before .before .before .soft-reset .ensures .arranged) (c .before .before .before .before .before .before .before .before .before .before .before .before .before .args .packet .now) (c .before .before .before .before .if1 .taken)) _ _ _ (c .before .before .store .ensures)
+    let at-if1 = c .before .before .before .before in
+    let at-soft-reset = at-if1 .before .before in
+    let at-is-control = at-soft-reset .before in
+    let at-acknowledged = at-is-control .before in
+    let at-checked = at-acknowledged .before in
+    let at-awaits = at-checked .before in
+    let entry = at-awaits .before .before .before in
+    accepts-stores (entry .args .self) (at-checked .checked .result) (at-acknowledged .acknowledged .result) (at-soft-reset .soft-reset .result) _ _ _ _ (at-awaits .awaits .ensures) (at-is-control .is-control .ensures) (at-checked .checked .ensures) (at-acknowledged .acknowledged .ensures) (at-soft-reset .soft-reset .ensures) (has-room (at-soft-reset .soft-reset .result) (at-soft-reset .soft-reset .ensures .arranged) (entry .args .packet .now) (at-if1 .if1 .taken)) _ _ _ (c .before .before .store .ensures)
 
 raises-requires : tie.Need-raises-requires
 raises-requires c κs = search needs
@@ -43,8 +54,14 @@ done-requires c κs = search needs
 
 returns-2 : tie.Need-returns-2
 returns-2 c =
+    let at-soft-reset = c .before .before .before .before in
+    let at-is-control = at-soft-reset .before in
+    let at-acknowledged = at-is-control .before in
+    let at-checked = at-acknowledged .before in
+    let at-awaits = at-checked .before in
+    let entry = at-awaits .before .before .before in
     rw (c .done .ensures)
-    (accepts-full (c .before .before .before .before .before .before .before .before .before .before .before .args .self) (c .before .before .before .before .before .before .before .checked .result) (c .before .before .before .before .before .before .acknowledged .result) (c .before .before .before .before .soft-reset .result) _ _ _ _ (c .before .before .before .before .before .before .before .before .awaits .ensures) (c .before .before .before .before .before .is-control .ensures) (c .before .before .before .before .before .before .before .checked .ensures) (c .before .before .before .before .before .before .acknowledged .ensures) (c .before .before .before .before .soft-reset .ensures) (no-room (c .before .before .before .before .soft-reset .result) (c .before .before .before .before .soft-reset .ensures .arranged) (c .before .before .before .before .before .before .before .before .before .before .before .args .packet .now) (c .before .before .if1 .left)) (c .before .raises .result) (c .before .raises .ensures) _)
+    (accepts-full (entry .args .self) (at-checked .checked .result) (at-acknowledged .acknowledged .result) (at-soft-reset .soft-reset .result) _ _ _ _ (at-awaits .awaits .ensures) (at-is-control .is-control .ensures) (at-checked .checked .ensures) (at-acknowledged .acknowledged .ensures) (at-soft-reset .soft-reset .ensures) (no-room (at-soft-reset .soft-reset .result) (at-soft-reset .soft-reset .ensures .arranged) (entry .args .packet .now) (c .before .before .if1 .left)) (c .before .raises .result) (c .before .raises .ensures) _)
 
 pub accept-spec : {M : Type 1} → statement M
 accept-spec =

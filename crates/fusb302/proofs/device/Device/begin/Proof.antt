@@ -41,7 +41,14 @@ same-length : tie.Need-same-length
 same-length c = search needs
 
 returns : tie.Need-returns
-returns c = rw (c .done .ensures) (begins (c .before .before .before .before .before .before .before .before .before .before .before .before .before .args .self) _ _ _ (c .before .before .before .before .before .before .before .before .before .retries-of .ensures) (c .before .before .before .before .before .before .before .before .has .ensures) (c .before .before .before .before .before .before .before .has2 .ensures) (c .before .before .hides-fails .result) (c .before .requests .result) (c .before .before .hides-fails .ensures) (c .before .requests .ensures) _ _ _ (c .before .before .before .before .before .put-message .ensures))
+returns c =
+    let at-hides-fails = c .before .before in
+    let at-put-message = at-hides-fails .before .before .before in
+    let at-has2 = at-put-message .before .before in
+    let at-has = at-has2 .before in
+    let at-retries-of = at-has .before in
+    let entry = at-retries-of .before .before .before .before in
+    rw (c .done .ensures) (begins (entry .args .self) _ _ _ (at-retries-of .retries-of .ensures) (at-has .has .ensures) (at-has2 .has2 .ensures) (at-hides-fails .hides-fails .result) (c .before .requests .result) (at-hides-fails .hides-fails .ensures) (c .before .requests .ensures) _ _ _ (at-put-message .put-message .ensures))
 
 pub begin-spec : {M : Type 1} → statement M
 begin-spec =

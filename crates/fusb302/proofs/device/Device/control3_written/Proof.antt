@@ -13,7 +13,10 @@ slice-aggregate-put : tie.Need-slice-aggregate-put
 slice-aggregate-put c = search needs
 
 put-requires : tie.Need-put-requires
-put-requires c κs = (reset-whole, c .before .before .before .before .before .pre .1)
+put-requires c κs =
+    let at-if1 = c .before .before in
+    let entry = at-if1 .before .before .before in
+    (reset-whole, entry .pre .1)
 
 over-requires : tie.Need-over-requires
 over-requires c κs = search needs
@@ -32,8 +35,13 @@ same-length c = search needs
 
 returns : tie.Need-returns
 returns c =
+    let at-over = c .before .before .before in
+    let at-put = at-over .before .before .before in
+    let at-if1 = at-put .before .before .before in
+    let at-has = at-if1 .before in
+    let entry = at-has .before .before in
     rw (c .done .ensures)
-    (control3-sends (c .before .before .before .before .before .before .before .before .before .before .before .before .args .self) _ _ (sym (c .before .before .before .before .before .before .before .before .before .before .has .ensures) ∙ c .before .before .before .before .before .before .before .before .before .if1 .taken) (c .before .before .before .over .result) (c .before .before .hides-fails .result) (c .before .raises-a .result) (c .before .before .before .over .ensures) (c .before .before .hides-fails .ensures) (c .before .raises-a .ensures) _ _ (c .before .before .before .before .before .before .put .ensures))
+    (control3-sends (entry .args .self) _ _ (sym (at-has .has .ensures) ∙ at-if1 .if1 .taken) (at-over .over .result) (c .before .before .hides-fails .result) (c .before .raises-a .result) (at-over .over .ensures) (c .before .before .hides-fails .ensures) (c .before .raises-a .ensures) _ _ (at-put .put .ensures))
 
 done-requires-2 : tie.Need-done-requires-2
 done-requires-2 c κs = search needs

@@ -26,8 +26,12 @@ same-length c = search needs
 
 returns : tie.Need-returns
 returns c =
+    let at-goes-on = c .before .before in
+    let at-put-flight = at-goes-on .before .before .before .before in
+    let at-if1 = at-put-flight .before .before in
+    let entry = at-if1 .before .before .before .before in
     rw (c .done .ensures)
-    (expires-again (c .before .before .before .before .before .before .before .before .before .before .before .before .args .self) _ _ (c .before .before .before .before .before .before .before .before .before .before .before .before .pre .0 .arranged) (c .before .before .before .before .before .before .before .before .before .before .before .before .pre .1) (c .before .before .before .before .before .before .before .before .if1 .taken) (c .before .before .goes-on .result) (c .before .before .goes-on .ensures) (c .before .requests .result) (c .before .requests .ensures) _ _ (c .before .before .before .before .before .before .put-flight .ensures))
+    (expires-again (entry .args .self) _ _ (entry .pre .0 .arranged) (entry .pre .1) (at-if1 .if1 .taken) (at-goes-on .goes-on .result) (at-goes-on .goes-on .ensures) (c .before .requests .result) (c .before .requests .ensures) _ _ (at-put-flight .put-flight .ensures))
 
 soft-fails-requires : tie.Need-soft-fails-requires
 soft-fails-requires c κs = search needs
@@ -37,7 +41,11 @@ same-length-2 c = search needs
 
 returns-2 : tie.Need-returns-2
 unfolding fails
-returns-2 c = expires-last (c .before .before .before .before .before .before .before .before .before .args .self) _ _ _ _ (c .before .before .before .before .before .if1 .left) true (c .before .before .before .before .if2 .taken) (c .before .before .soft-fails .ensures)
+returns-2 c =
+    let at-if2 = c .before .before .before .before in
+    let at-if1 = at-if2 .before in
+    let entry = at-if1 .before .before .before .before in
+    expires-last (entry .args .self) _ _ _ _ (at-if1 .if1 .left) true (at-if2 .if2 .taken) (c .before .before .soft-fails .ensures)
 
 message-fails-requires : tie.Need-message-fails-requires
 message-fails-requires c κs = search needs
@@ -47,7 +55,11 @@ same-length-3 c = search needs
 
 returns-3 : tie.Need-returns-3
 unfolding fails
-returns-3 c = expires-last (c .before .before .before .before .before .before .before .before .before .args .self) _ _ _ _ (c .before .before .before .before .before .if1 .left) false (c .before .before .before .before .if2 .left) (c .before .before .message-fails .ensures)
+returns-3 c =
+    let at-if2 = c .before .before .before .before in
+    let at-if1 = at-if2 .before in
+    let entry = at-if1 .before .before .before .before in
+    expires-last (entry .args .self) _ _ _ _ (at-if1 .if1 .left) false (at-if2 .if2 .left) (c .before .before .message-fails .ensures)
 
 pub expire-spec : {M : Type 1} → statement M
 expire-spec =

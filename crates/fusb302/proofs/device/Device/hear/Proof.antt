@@ -21,19 +21,32 @@ same-length : tie.Need-same-length
 same-length c = search needs
 
 returns : tie.Need-returns
-returns c = hears-right (c .before .before .before .before .before .before .before .before .before .before .before .args .t1) _ _ _ (sym (c .before .before .before .before .before .before .before .kind-on .ensures) ∙ c .before .before .before .before .before .before .if1 .taken) (sym (c .before .before .before .before .before .right .ensures) ∙ c .before .before .before .before .if2 .taken) _ _ (c .before .before .accept .ensures)
+returns c =
+    let at-if2 = c .before .before .before .before in
+    let at-right = at-if2 .before in
+    let at-if1 = at-right .before in
+    let at-kind-on = at-if1 .before in
+    let entry = at-kind-on .before .before .before .before in
+    hears-right (entry .args .t1) _ _ _ (sym (at-kind-on .kind-on .ensures) ∙ at-if1 .if1 .taken) (sym (at-right .right .ensures) ∙ at-if2 .if2 .taken) _ _ (c .before .before .accept .ensures)
 
 done-requires : tie.Need-done-requires
 done-requires c κs = search needs
 
 returns-2 : tie.Need-returns-2
-returns-2 c = rw (c .done .ensures) (hears-wrong (c .before .before .before .before .before .before .before .before .before .args .t1) _ _ _ (c .before .before .before .before .before .before .before .before .before .pre .0) (sym (c .before .before .before .before .before .kind-on .ensures) ∙ c .before .before .before .before .if1 .taken) (sym (c .before .before .before .right .ensures) ∙ c .before .before .if2 .left))
+returns-2 c =
+    let at-if1 = c .before .before .before .before in
+    let at-kind-on = at-if1 .before in
+    let entry = at-kind-on .before .before .before .before in
+    rw (c .done .ensures) (hears-wrong (entry .args .t1) _ _ _ (entry .pre .0) (sym (at-kind-on .kind-on .ensures) ∙ at-if1 .if1 .taken) (sym (c .before .before .before .right .ensures) ∙ c .before .before .if2 .left))
 
 done-requires-2 : tie.Need-done-requires-2
 done-requires-2 c κs = search needs
 
 returns-3 : tie.Need-returns-3
-returns-3 c = rw (c .done2 .ensures) (hears-off (c .before .before .before .before .before .before .args .t1) _ _ _ (c .before .before .before .before .before .before .pre .0) (sym (c .before .before .kind-on .ensures) ∙ c .before .if1 .left))
+returns-3 c =
+    let at-kind-on = c .before .before in
+    let entry = at-kind-on .before .before .before .before in
+    rw (c .done2 .ensures) (hears-off (entry .args .t1) _ _ _ (entry .pre .0) (sym (at-kind-on .kind-on .ensures) ∙ c .before .if1 .left))
 
 pub hear-spec : {M : Type 1} → statement M
 hear-spec =

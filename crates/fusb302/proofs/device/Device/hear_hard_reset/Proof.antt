@@ -27,8 +27,10 @@ done-requires c κs = search needs
 returns-2 : tie.Need-returns-2
 unfolding hardResetHeard
 returns-2 c =
-    let h = over-noted (c .before .before .before .before .before .before .args .self) (c .before .before .before .over .result) (c .before .before .shows .result) (c .before .raises-a .result) _ _ (c .before .before .before .over .ensures) (c .before .before .shows .ensures) (c .before .raises-a .ensures) in
-    rw (c .done .ensures) (reset-heard _ (c .before .before .before .before .before .before .pre) _ (c .before .before .before .before .if1 .left) (c .before .raises-a .result) (h .arranged) (h .state))
+    let at-if1 = c .before .before .before .before in
+    let entry = at-if1 .before .before in
+    let h = over-noted (entry .args .self) (c .before .before .before .over .result) (c .before .before .shows .result) (c .before .raises-a .result) _ _ (c .before .before .before .over .ensures) (c .before .before .shows .ensures) (c .before .raises-a .ensures) in
+    rw (c .done .ensures) (reset-heard _ (entry .pre) _ (at-if1 .if1 .left) (c .before .raises-a .result) (h .arranged) (h .state))
 
 pub hear-hard-reset-spec : {M : Type 1} → statement M
 hear-hard-reset-spec =

@@ -15,19 +15,28 @@ refuse-requires-2 : tie.Need-refuse-requires-2
 refuse-requires-2 c κs = search needs
 
 returns-2 : tie.Need-returns-2
-returns-2 c = rw (c .refuse2 .ensures) (packet-kind _ (c .before .before .before .before .before .pre) _ _ _ (c .before .before .if1 .left) (c .before .if2 .taken))
+returns-2 c =
+    let at-if1 = c .before .before in
+    let entry = at-if1 .before .before .before in
+    rw (c .refuse2 .ensures) (packet-kind _ (entry .pre) _ _ _ (at-if1 .if1 .left) (c .before .if2 .taken))
 
 refuse-requires-3 : tie.Need-refuse-requires-3
 refuse-requires-3 c κs = search needs
 
 returns-3 : tie.Need-returns-3
-returns-3 c = rw (c .refuse3 .ensures) (packet-short _ (c .before .before .before .before .before .before .pre) _ _ _ (c .before .before .before .if1 .left) (c .before .before .if2 .left) (c .before .if3 .taken))
+returns-3 c =
+    let at-if1 = c .before .before .before in
+    let entry = at-if1 .before .before .before in
+    rw (c .refuse3 .ensures) (packet-short _ (entry .pre) _ _ _ (at-if1 .if1 .left) (c .before .before .if2 .left) (c .before .if3 .taken))
 
 refuse-requires-4 : tie.Need-refuse-requires-4
 refuse-requires-4 c κs = search needs
 
 returns-4 : tie.Need-returns-4
-returns-4 c = rw (c .refuse4 .ensures) (packet-long _ (c .before .before .before .before .before .before .before .pre) _ _ _ (c .before .before .before .before .if1 .left) (c .before .before .before .if2 .left) (c .before .before .if3 .left) (c .before .if4 .taken))
+returns-4 c =
+    let at-if1 = c .before .before .before .before in
+    let entry = at-if1 .before .before .before in
+    rw (c .refuse4 .ensures) (packet-long _ (entry .pre) _ _ _ (at-if1 .if1 .left) (c .before .before .before .if2 .left) (c .before .before .if3 .left) (c .before .if4 .taken))
 
 cast-hear : tie.Need-cast-hear
 cast-hear c = search needs
@@ -39,7 +48,14 @@ same-length : tie.Need-same-length
 same-length c = search needs
 
 returns-5 : tie.Need-returns-5
-returns-5 c = packet-heard _ (c .before .before .before .before .before .before .before .before .before .before .pre) _ _ (c .before .before .before .before .before .before .before .before .before .before .args .octets .now) (c .before .before .before .before .before .before .before .if1 .left) (c .before .before .before .before .before .before .if2 .left) (c .before .before .before .before .before .if3 .left) (c .before .before .before .before .if4 .left) (λ i. omega (arith, c .before .before .before .before .before .before .before .before .before .shared-slice-known .given i)) _ _ (c .before .before .hear .ensures)
+returns-5 c =
+    let at-if4 = c .before .before .before .before in
+    let at-if3 = at-if4 .before in
+    let at-if2 = at-if3 .before in
+    let at-if1 = at-if2 .before in
+    let at-shared-slice-known = at-if1 .before .before in
+    let entry = at-shared-slice-known .before in
+    packet-heard _ (entry .pre) _ _ (entry .args .octets .now) (at-if1 .if1 .left) (at-if2 .if2 .left) (at-if3 .if3 .left) (at-if4 .if4 .left) (λ i. omega (arith, at-shared-slice-known .shared-slice-known .given i)) _ _ (c .before .before .hear .ensures)
 
 pub hear-packet-spec : {M : Type 1} → statement M
 hear-packet-spec =

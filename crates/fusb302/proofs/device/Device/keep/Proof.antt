@@ -14,10 +14,17 @@ raises-requires : tie.Need-raises-requires
 raises-requires c κs = search needs
 
 returns : tie.Need-returns
-returns c = keeps-full (c .before .before .before .before .before .before .before .before .args .self) (c .before .before .before .before .before .before .before .before .pre .0) _ (c .before .before .before .before .before .before .before .before .pre .1) _ _ (c .before .before .before .before .before .rx-token .ensures) (c .before .before .before .before .store .result) (c .before .before .before .before .store .ensures) (c .before .if1 .taken) (c .raises .result) (c .raises .ensures)
+returns c =
+    let at-store = c .before .before .before .before in
+    let at-rx-token = at-store .before in
+    let entry = at-rx-token .before .before .before in
+    keeps-full (entry .args .self) (entry .pre .0) _ (entry .pre .1) _ _ (at-rx-token .rx-token .ensures) (at-store .store .result) (at-store .store .ensures) (c .before .if1 .taken) (c .raises .result) (c .raises .ensures)
 
 returns-2 : tie.Need-returns-2
-returns-2 c = keeps-on (c .before .before .before .before .before .before .before .args .self) (c .before .before .before .before .before .before .before .pre .0) _ (c .before .before .before .before .before .before .before .pre .1) _ _ (c .before .before .before .before .rx-token .ensures) (c .before .before .before .store .result) (c .before .before .before .store .ensures) (c .if1 .left)
+returns-2 c =
+    let at-rx-token = c .before .before .before .before in
+    let entry = at-rx-token .before .before .before in
+    keeps-on (entry .args .self) (entry .pre .0) _ (entry .pre .1) _ _ (at-rx-token .rx-token .ensures) (c .before .before .before .store .result) (c .before .before .before .store .ensures) (c .if1 .left)
 
 pub keep-spec : {M : Type 1} → statement M
 keep-spec = tie.close (tie.spec rx-token-requires store-requires raises-requires returns returns-2)

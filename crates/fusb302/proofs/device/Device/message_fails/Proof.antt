@@ -31,17 +31,27 @@ same-length c = search needs
 
 returns : tie.Need-returns
 returns c =
-    let h = over-noted (c .before .before .before .before .before .before .before .before .before .before .before .before .before .args .self) (c .before .before .before .before .before .before .before .before .before .before .before .over .result) (c .before .before .before .before .before .before .before .before .before .before .shows .result) (c .before .before .before .before .before .before .before .before .before .raises-a .result) _ _ (c .before .before .before .before .before .before .before .before .before .before .before .over .ensures) (c .before .before .before .before .before .before .before .before .before .before .shows .ensures) (c .before .before .before .before .before .before .before .before .before .raises-a .ensures) in
+    let at-goes-on = c .before .before in
+    let at-put-control = at-goes-on .before .before .before in
+    let at-if1 = at-put-control .before .before in
+    let at-raises-a = at-if1 .before .before in
+    let at-shows = at-raises-a .before in
+    let at-over = at-shows .before in
+    let entry = at-over .before .before in
+    let h = over-noted (entry .args .self) (at-over .over .result) (at-shows .shows .result) (at-raises-a .raises-a .result) _ _ (at-over .over .ensures) (at-shows .shows .ensures) (at-raises-a .raises-a .ensures) in
     rw (c .done .ensures)
-    (message-soft (c .before .before .before .before .before .before .before .before .before .before .before .before .before .args .self) (c .before .before .before .before .before .before .before .before .before .raises-a .result) _ _ h (c .before .before .before .before .before .before .before .if1 .taken) (c .before .before .before .before .before .before .before .before .before .before .before .before .before .pre .1) (c .before .before .goes-on .result) (c .before .before .goes-on .ensures) (c .before .requests .result) (c .before .requests .ensures) _ _ (c .before .before .before .before .before .put-control .ensures))
+    (message-soft (entry .args .self) (at-raises-a .raises-a .result) _ _ h (at-if1 .if1 .taken) (entry .pre .1) (at-goes-on .goes-on .result) (at-goes-on .goes-on .ensures) (c .before .requests .result) (c .before .requests .ensures) _ _ (at-put-control .put-control .ensures))
 
 done-requires-2 : tie.Need-done-requires-2
 done-requires-2 c κs = search needs
 
 returns-2 : tie.Need-returns-2
 returns-2 c =
-    let h = over-noted (c .before .before .before .before .before .before .before .args .self) (c .before .before .before .before .before .over .result) (c .before .before .before .before .shows .result) (c .before .before .before .raises-a .result) _ _ (c .before .before .before .before .before .over .ensures) (c .before .before .before .before .shows .ensures) (c .before .before .before .raises-a .ensures) in
-    rw (c .done2 .ensures) (message-ends (c .before .before .before .before .before .before .before .args .self) (c .before .before .before .raises-a .result) _ _ h (c .before .if1 .left))
+    let at-shows = c .before .before .before .before in
+    let at-over = at-shows .before in
+    let entry = at-over .before .before in
+    let h = over-noted (entry .args .self) (at-over .over .result) (at-shows .shows .result) (c .before .before .before .raises-a .result) _ _ (at-over .over .ensures) (at-shows .shows .ensures) (c .before .before .before .raises-a .ensures) in
+    rw (c .done2 .ensures) (message-ends (entry .args .self) (c .before .before .before .raises-a .result) _ _ h (c .before .if1 .left))
 
 pub message-fails-spec : {M : Type 1} → statement M
 message-fails-spec =

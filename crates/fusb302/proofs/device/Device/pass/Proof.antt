@@ -35,7 +35,13 @@ done-requires : tie.Need-done-requires
 done-requires c κs = search needs
 
 returns-3 : tie.Need-returns-3
-returns-3 c = rw (c .done .ensures) (pass-waits _ (c .before .before .before .before .before .before .before .before .before .before .pre) _ _ (c .before .before .before .before .before .before .before .before .if1 .left) (c .before .before .before .before .before .before .before .if2 .left) (c .before .before .before .before .before .if3 .taken) (c .before .before .before .if4 .taken) (c .before .before .goes-on .result) (c .before .before .goes-on .ensures) (c .before .requests .result) (c .before .requests .ensures))
+returns-3 c =
+    let at-if4 = c .before .before .before in
+    let at-if3 = at-if4 .before .before in
+    let at-if2 = at-if3 .before .before in
+    let at-if1 = at-if2 .before in
+    let entry = at-if1 .before .before in
+    rw (c .done .ensures) (pass-waits _ (entry .pre) _ _ (at-if1 .if1 .left) (at-if2 .if2 .left) (at-if3 .if3 .taken) (at-if4 .if4 .taken) (c .before .before .goes-on .result) (c .before .before .goes-on .ensures) (c .before .requests .result) (c .before .requests .ensures))
 
 cast-expire : tie.Need-cast-expire
 cast-expire c = search needs
@@ -47,13 +53,22 @@ same-length : tie.Need-same-length
 same-length c = search needs
 
 returns-4 : tie.Need-returns-4
-returns-4 c = pass-expires _ (c .before .before .before .before .before .before .before .before .before .before .before .pre) _ _ (c .before .before .before .before .before .before .before .before .before .if1 .left) (c .before .before .before .before .before .before .before .before .if2 .left) (c .before .before .before .before .before .before .if3 .taken) (c .before .before .before .before .if4 .left) _ _ (c .before .before .expire .ensures)
+returns-4 c =
+    let at-if4 = c .before .before .before .before in
+    let at-if3 = at-if4 .before .before in
+    let at-if2 = at-if3 .before .before in
+    let at-if1 = at-if2 .before in
+    let entry = at-if1 .before .before in
+    pass-expires _ (entry .pre) _ _ (at-if1 .if1 .left) (at-if2 .if2 .left) (at-if3 .if3 .taken) (at-if4 .if4 .left) _ _ (c .before .before .expire .ensures)
 
 done-requires-2 : tie.Need-done-requires-2
 done-requires-2 c κs = search needs
 
 returns-5 : tie.Need-returns-5
-returns-5 c = rw (c .done2 .ensures) (pass-idle _ (c .before .before .before .before .before .before .pre) _ _ (c .before .before .before .before .if1 .left) (c .before .before .before .if2 .left) (c .before .if3 .left))
+returns-5 c =
+    let at-if1 = c .before .before .before .before in
+    let entry = at-if1 .before .before in
+    rw (c .done2 .ensures) (pass-idle _ (entry .pre) _ _ (at-if1 .if1 .left) (c .before .before .before .if2 .left) (c .before .if3 .left))
 
 pub pass-spec : {M : Type 1} → statement M
 pass-spec =

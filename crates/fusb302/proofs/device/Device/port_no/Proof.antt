@@ -15,7 +15,11 @@ start-no-requires : tie.Need-start-no-requires
 start-no-requires c κs = search needs
 
 returns-2 : tie.Need-returns-2
-returns-2 c = port-start _ (c .before .before .before .before .before .before .before .pre) _ (c .before .before .before .before .before .before .if1 .left) (c .before .before .before .if2 .taken) (c .before .before .if3 .taken) _ (c .start-no .ensures)
+returns-2 c =
+    let at-if2 = c .before .before .before in
+    let at-if1 = at-if2 .before .before .before in
+    let entry = at-if1 .before in
+    port-start _ (entry .pre) _ (at-if1 .if1 .left) (at-if2 .if2 .taken) (c .before .before .if3 .taken) _ (c .start-no .ensures)
 
 is-token-requires : tie.Need-is-token-requires
 is-token-requires c κs = search needs
@@ -24,16 +28,27 @@ full-no-requires : tie.Need-full-no-requires
 full-no-requires c κs = search needs
 
 returns-3 : tie.Need-returns-3
-returns-3 c = port-token _ (c .before .before .before .before .before .before .before .before .pre) _ (c .before .before .before .before .before .before .before .if1 .left) (c .before .before .before .before .if2 .taken) (c .before .before .before .if3 .left) (sym (c .before .before .is-token .ensures) ∙ c .before .if4 .taken) _ (c .full-no .ensures)
+returns-3 c =
+    let at-if2 = c .before .before .before .before in
+    let at-if1 = at-if2 .before .before .before in
+    let entry = at-if1 .before in
+    port-token _ (entry .pre) _ (at-if1 .if1 .left) (at-if2 .if2 .taken) (c .before .before .before .if3 .left) (sym (c .before .before .is-token .ensures) ∙ c .before .if4 .taken) _ (c .full-no .ensures)
 
 returns-4 : tie.Need-returns-4
-returns-4 c = port-bad _ (c .before .before .before .before .before .before .before .pre) _ (c .before .before .before .before .before .before .if1 .left) (c .before .before .before .if2 .taken) (c .before .before .if3 .left) (sym (c .before .is-token .ensures) ∙ c .if4 .left)
+returns-4 c =
+    let at-if2 = c .before .before .before in
+    let at-if1 = at-if2 .before .before .before in
+    let entry = at-if1 .before in
+    port-bad _ (entry .pre) _ (at-if1 .if1 .left) (at-if2 .if2 .taken) (c .before .before .if3 .left) (sym (c .before .is-token .ensures) ∙ c .if4 .left)
 
 full-no-requires-2 : tie.Need-full-no-requires-2
 full-no-requires-2 c κs = search needs
 
 returns-5 : tie.Need-returns-5
-returns-5 c = port-data _ (c .before .before .before .before .before .pre) _ (c .before .before .before .before .if1 .left) (c .before .if2 .left) _ (c .full-no2 .ensures)
+returns-5 c =
+    let at-if1 = c .before .before .before .before in
+    let entry = at-if1 .before in
+    port-data _ (entry .pre) _ (at-if1 .if1 .left) (c .before .if2 .left) _ (c .full-no2 .ensures)
 
 pub port-no-spec : {M : Type 1} → statement M
 port-no-spec =

@@ -16,7 +16,11 @@ same-length : tie.Need-same-length
 same-length c = search needs
 
 returns : tie.Need-returns
-returns c = port-begins _ (c .before .before .before .before .before .before .before .before .pre .0 .arranged) _ _ (sym (c .before .before .before .before .before .is-start .ensures) ∙ c .before .before .before .before .if1 .taken) _ _ (c .before .before .begin .ensures)
+returns c =
+    let at-if1 = c .before .before .before .before in
+    let at-is-start = at-if1 .before in
+    let entry = at-is-start .before .before .before in
+    port-begins _ (entry .pre .0 .arranged) _ _ (sym (at-is-start .is-start .ensures) ∙ at-if1 .if1 .taken) _ _ (c .before .before .begin .ensures)
 
 queue-requires : tie.Need-queue-requires
 queue-requires c κs = (c .before .before .before .before .pre .0 .arranged, port-room _ (c .before .before .before .before .pre .0 .arranged) _ (c .before .before .before .before .pre .1) (sym (c .before .is-start .ensures) ∙ c .if1 .left))
@@ -25,7 +29,10 @@ done-requires : tie.Need-done-requires
 done-requires c κs = search needs
 
 returns-2 : tie.Need-returns-2
-returns-2 c = rw (c .done .ensures) (port-queues _ (c .before .before .before .before .before .before .pre .0 .arranged) _ _ (sym (c .before .before .before .is-start .ensures) ∙ c .before .before .if1 .left) (c .before .queue .result) (c .before .queue .ensures))
+returns-2 c =
+    let at-is-start = c .before .before .before in
+    let entry = at-is-start .before .before .before in
+    rw (c .done .ensures) (port-queues _ (entry .pre .0 .arranged) _ _ (sym (at-is-start .is-start .ensures) ∙ c .before .before .if1 .left) (c .before .queue .result) (c .before .queue .ensures))
 
 pub port-written-spec : {M : Type 1} → statement M
 port-written-spec =

@@ -22,7 +22,10 @@ same-length-2 c = search needs
 
 returns-2 : tie.Need-returns-2
 unfolding flightIn
-returns-2 c = rw (c .before .before .before .before .before .if1 .left) (c .before .before .put-message .ensures)
+returns-2 c =
+    let at-put-message = c .before .before in
+    let at-if1 = at-put-message .before .before .before in
+    rw (at-if1 .if1 .left) (at-put-message .put-message .ensures)
 
 pub put-flight-spec : {M : Type 1} → statement M
 put-flight-spec =

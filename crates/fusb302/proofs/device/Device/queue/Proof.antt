@@ -11,7 +11,10 @@ raises-requires : tie.Need-raises-requires
 raises-requires c κs = search needs
 
 returns : tie.Need-returns
-returns c = queue-full (c .before .before .before .before .before .args .self) (c .before .before .before .before .before .pre .0) _ (c .before .before .before .push .result) (c .before .before .before .push .ensures) (c .before .if1 .taken) (c .raises .result) (c .raises .ensures)
+returns c =
+    let at-push = c .before .before .before in
+    let entry = at-push .before .before in
+    queue-full (entry .args .self) (entry .pre .0) _ (at-push .push .result) (at-push .push .ensures) (c .before .if1 .taken) (c .raises .result) (c .raises .ensures)
 
 returns-2 : tie.Need-returns-2
 returns-2 c = queue-on (c .before .before .before .before .args .self) (c .before .before .before .before .pre .0) _ (c .before .before .push .result) (c .before .before .push .ensures) (c .if1 .left)

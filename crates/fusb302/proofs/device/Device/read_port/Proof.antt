@@ -26,7 +26,10 @@ give-requires : tie.Need-give-requires
 give-requires c κs = search needs
 
 returns-2 : tie.Need-returns-2
-returns-2 c = rw (c .give .ensures) (port-read _ (c .before .before .before .before .before .before .pre) (c .before .before .before .if1 .left) _ _ (c .before .before .first .ensures) (c .before .rest .ensures .0) (c .before .rest .ensures .1))
+returns-2 c =
+    let at-if1 = c .before .before .before in
+    let entry = at-if1 .before .before .before in
+    rw (c .give .ensures) (port-read _ (entry .pre) (at-if1 .if1 .left) _ _ (c .before .before .first .ensures) (c .before .rest .ensures .0) (c .before .rest .ensures .1))
 
 pub read-port-spec : {M : Type 1} → statement M
 read-port-spec =

@@ -27,13 +27,20 @@ done-requires-2 : tie.Need-done-requires-2
 done-requires-2 c κs = search needs
 
 returns-2 : tie.Need-returns-2
-returns-2 c = rw (c .done2 .ensures) (reset-clears (c .before .before .before .before .before .before .args .self) _ (sym (c .before .before .before .before .before .has .ensures) ∙ c .before .before .before .before .if1 .left) (sym (c .before .before .before .has2 .ensures) ∙ c .before .before .if2 .taken) (c .before .pd-reset .result) (c .before .pd-reset .ensures))
+returns-2 c =
+    let at-if1 = c .before .before .before .before in
+    let at-has = at-if1 .before in
+    let entry = at-has .before in
+    rw (c .done2 .ensures) (reset-clears (entry .args .self) _ (sym (at-has .has .ensures) ∙ at-if1 .if1 .left) (sym (c .before .before .before .has2 .ensures) ∙ c .before .before .if2 .taken) (c .before .pd-reset .result) (c .before .pd-reset .ensures))
 
 done-requires-3 : tie.Need-done-requires-3
 done-requires-3 c κs = search needs
 
 returns-3 : tie.Need-returns-3
-returns-3 c = rw (c .done3 .ensures) (reset-rests (c .before .before .before .before .before .args .self) _ (sym (c .before .before .before .before .has .ensures) ∙ c .before .before .before .if1 .left) (sym (c .before .before .has2 .ensures) ∙ c .before .if2 .left) (c .before .before .before .before .before .pre))
+returns-3 c =
+    let at-has = c .before .before .before .before in
+    let entry = at-has .before in
+    rw (c .done3 .ensures) (reset-rests (entry .args .self) _ (sym (at-has .has .ensures) ∙ c .before .before .before .if1 .left) (sym (c .before .before .has2 .ensures) ∙ c .before .if2 .left) (entry .pre))
 
 pub reset-written-spec : {M : Type 1} → statement M
 reset-written-spec =

@@ -19,7 +19,10 @@ slice-aggregate-put : tie.Need-slice-aggregate-put
 slice-aggregate-put c = search needs
 
 put-requires : tie.Need-put-requires
-put-requires c κs = (reset-whole, c .before .before .before .before .before .before .before .pre .1)
+put-requires c κs =
+    let at-raises-a = c .before .before .before in
+    let entry = at-raises-a .before .before .before .before in
+    (reset-whole, entry .pre .1)
 
 raises-a-requires-2 : tie.Need-raises-a-requires-2
 raises-a-requires-2 c κs = search needs
@@ -32,16 +35,24 @@ same-length c = search needs
 
 returns : tie.Need-returns
 returns c =
-    let h = over-noted (c .before .before .before .before .before .before .before .before .before .before .before .before .args .self) (c .before .before .before .before .before .before .before .before .before .before .over .result) (c .before .before .before .before .before .before .before .before .before .shows .result) (c .before .before .before .before .before .before .before .before .raises-a .result) _ _ (c .before .before .before .before .before .before .before .before .before .before .over .ensures) (c .before .before .before .before .before .before .before .before .before .shows .ensures) (c .before .before .before .before .before .before .before .before .raises-a .ensures) in
-    rw (c .done .ensures) (soft-hard (c .before .before .before .before .before .before .before .before .before .before .before .before .args .self) (c .before .before .before .before .before .before .before .before .raises-a .result) _ h (c .before .before .before .before .before .before .before .if1 .taken) (c .before .raises-a2 .result) (c .before .raises-a2 .ensures) _ _ (c .before .before .before .before .put .ensures))
+    let at-put = c .before .before .before .before in
+    let at-if1 = at-put .before .before .before in
+    let at-raises-a = at-if1 .before in
+    let at-shows = at-raises-a .before in
+    let at-over = at-shows .before in
+    let entry = at-over .before .before in
+    let h = over-noted (entry .args .self) (at-over .over .result) (at-shows .shows .result) (at-raises-a .raises-a .result) _ _ (at-over .over .ensures) (at-shows .shows .ensures) (at-raises-a .raises-a .ensures) in
+    rw (c .done .ensures) (soft-hard (entry .args .self) (at-raises-a .raises-a .result) _ h (at-if1 .if1 .taken) (c .before .raises-a2 .result) (c .before .raises-a2 .ensures) _ _ (at-put .put .ensures))
 
 done-requires-2 : tie.Need-done-requires-2
 done-requires-2 c κs = search needs
 
 returns-2 : tie.Need-returns-2
 returns-2 c =
-    let h = over-noted (c .before .before .before .before .before .before .args .self) (c .before .before .before .before .over .result) (c .before .before .before .shows .result) (c .before .before .raises-a .result) _ _ (c .before .before .before .before .over .ensures) (c .before .before .before .shows .ensures) (c .before .before .raises-a .ensures) in
-    rw (c .done2 .ensures) (soft-ends (c .before .before .before .before .before .before .args .self) (c .before .before .raises-a .result) _ h (c .before .if1 .left))
+    let at-over = c .before .before .before .before in
+    let entry = at-over .before .before in
+    let h = over-noted (entry .args .self) (at-over .over .result) (c .before .before .before .shows .result) (c .before .before .raises-a .result) _ _ (at-over .over .ensures) (c .before .before .before .shows .ensures) (c .before .before .raises-a .ensures) in
+    rw (c .done2 .ensures) (soft-ends (entry .args .self) (c .before .before .raises-a .result) _ h (c .before .if1 .left))
 
 pub soft-fails-spec : {M : Type 1} → statement M
 soft-fails-spec =

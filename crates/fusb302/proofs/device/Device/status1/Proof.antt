@@ -33,7 +33,9 @@ add-result-4 c = search needs
 
 returns : tie.Need-returns
 returns c =
-    status1-is (c .before .before .before .before .before .args .self) (c .before .before .before .before .before .pre) _ _ _ _ _ (c .before .before .before .before .rx-kind .ensures .0) (c .before .before .before .flag .ensures .0) (c .before .before .flag2 .ensures .0) (c .before .flag3 .ensures .0) (c .flag4 .ensures .0)
+    let at-rx-kind = c .before .before .before .before in
+    let entry = at-rx-kind .before in
+    status1-is (entry .args .self) (entry .pre) _ _ _ _ _ (at-rx-kind .rx-kind .ensures .0) (c .before .before .before .flag .ensures .0) (c .before .before .flag2 .ensures .0) (c .before .flag3 .ensures .0) (c .flag4 .ensures .0)
 
 pub status1-spec : {M : Type 1} → statement M
 status1-spec =

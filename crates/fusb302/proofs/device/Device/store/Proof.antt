@@ -30,13 +30,23 @@ same-length : tie.Need-same-length
 same-length c = search needs
 
 returns : tie.Need-returns
-returns c = rw (c .done .ensures) (stores-replies (c .before .before .before .before .before .before .before .before .before .before .before .before .before .args .t1) _ _ (c .before .before .before .before .before .before .before .before .before .keep .result) (c .before .before .before .before .before .before .before .before .before .keep .ensures) _ (sym (c .before .before .before .before .before .before .before .before .before .before .replies-to .ensures) ∙ c .before .before .before .before .before .before .before .before .if1 .taken) (c .before .raises-b .result) (c .before .raises-b .ensures) _ _ (rw (c .before .before .before .before .before .before .message-id .ensures .0) at (c .before .before .before .before .put-control .ensures)))
+returns c =
+    let at-put-control = c .before .before .before .before in
+    let at-message-id = at-put-control .before .before in
+    let at-if1 = at-message-id .before .before in
+    let at-keep = at-if1 .before in
+    let at-replies-to = at-keep .before in
+    let entry = at-replies-to .before .before .before in
+    rw (c .done .ensures) (stores-replies (entry .args .t1) _ _ (at-keep .keep .result) (at-keep .keep .ensures) _ (sym (at-replies-to .replies-to .ensures) ∙ at-if1 .if1 .taken) (c .before .raises-b .result) (c .before .raises-b .ensures) _ _ (rw (at-message-id .message-id .ensures .0) at (at-put-control .put-control .ensures)))
 
 done-requires-2 : tie.Need-done-requires-2
 done-requires-2 c κs = search needs
 
 returns-2 : tie.Need-returns-2
-returns-2 c = rw (c .done2 .ensures) (stores-only (c .before .before .before .before .before .before .args .t1) _ _ (c .before .before .keep .result) (c .before .before .keep .ensures) _ (sym (c .before .before .before .replies-to .ensures) ∙ c .before .if1 .left))
+returns-2 c =
+    let at-replies-to = c .before .before .before in
+    let entry = at-replies-to .before .before .before in
+    rw (c .done2 .ensures) (stores-only (entry .args .t1) _ _ (c .before .before .keep .result) (c .before .before .keep .ensures) _ (sym (at-replies-to .replies-to .ensures) ∙ c .before .if1 .left))
 
 pub store-spec : {M : Type 1} → statement M
 store-spec =

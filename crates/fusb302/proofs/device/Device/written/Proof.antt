@@ -13,7 +13,10 @@ same-length : tie.Need-same-length
 same-length c = search needs
 
 returns : tie.Need-returns
-returns c = written-port (c .before .before .before .before .before .before .args .self) _ _ _ _ _ (c .before .before .before .before .if1 .taken) (c .before .before .port-written .ensures)
+returns c =
+    let at-if1 = c .before .before .before .before in
+    let entry = at-if1 .before .before in
+    written-port (entry .args .self) _ _ _ _ _ (at-if1 .if1 .taken) (c .before .before .port-written .ensures)
 
 sub-at : tie.Need-sub-at
 sub-at c = taken-stored _ _ _ (c .before .before .pre .1) (c .if1 .left) .0
@@ -29,7 +32,10 @@ array-write-cells c = let h = taken-stored _ _ _ (c .before .before .before .bef
 
 control0-written-requires : tie.Need-control0-written-requires
 control0-written-requires c κs =
-    (stored-arranged _ (c .before .before .before .before .before .before .pre .0 .arranged) _ _, c .before .before .before .before .before .before .pre .0 .good .tx, no-flush (c .before .before .before .before .before .before .args .self) _ (rw (c .before .match .keys1) at (c .before .before .before .before .before .before .pre .1)), c .before .before .before .before .before .before .pre .2)
+    let at-match = c .before in
+    let at-stored-bits = at-match .before in
+    let entry = at-stored-bits .before .before .before .before in
+    (stored-arranged _ (entry .pre .0 .arranged) _ _, entry .pre .0 .good .tx, no-flush (entry .args .self) _ (rw (at-match .match .keys1) at (entry .pre .1)), entry .pre .2)
 
 control1-written-requires : tie.Need-control1-written-requires
 control1-written-requires c κs = search needs
@@ -48,29 +54,43 @@ same-length-2 c = search needs
 
 returns-2 : tie.Need-returns-2
 returns-2 c =
-    written-by (c .before .before .before .before .before .before .before .before .before .args .self) _ _ _ _ _ _ (c .before .before .before .before .before .stored-bits .ensures) (c .before .before .before .before .before .before .before .if1 .left) _ (is-control0 _ _ _ (c .before .before .before .before .match .keys1)) (c .before .before .control0-written .ensures)
+    let at-match = c .before .before .before .before in
+    let at-stored-bits = at-match .before in
+    let at-if1 = at-stored-bits .before .before in
+    let entry = at-if1 .before .before in
+    written-by (entry .args .self) _ _ _ _ _ _ (at-stored-bits .stored-bits .ensures) (at-if1 .if1 .left) _ (is-control0 _ _ _ (at-match .match .keys1)) (c .before .before .control0-written .ensures)
 
 returns-3 : tie.Need-returns-3
 returns-3 c =
-    written-by (c .before .before .before .before .before .before .args .self) _ _ _ _ _ _ (c .before .before .stored-bits .ensures) (c .before .before .before .before .if1 .left) _ (is-control1 _ _ _ (c .before .match .keys2)) (quiet-does _ _ (c .control1-written .ensures) _)
+    let at-if1 = c .before .before .before .before in
+    let entry = at-if1 .before .before in
+    written-by (entry .args .self) _ _ _ _ _ _ (c .before .before .stored-bits .ensures) (at-if1 .if1 .left) _ (is-control1 _ _ _ (c .before .match .keys2)) (quiet-does _ _ (c .control1-written .ensures) _)
 
 same-length-3 : tie.Need-same-length-3
 same-length-3 c = search needs
 
 returns-4 : tie.Need-returns-4
 returns-4 c =
-    written-by (c .before .before .before .before .before .before .before .before .before .args .self) _ _ _ _ _ _ (c .before .before .before .before .before .stored-bits .ensures) (c .before .before .before .before .before .before .before .if1 .left) _ (is-control3 _ _ _ (c .before .before .before .before .match .keys3)) (c .before .before .control3-written .ensures)
+    let at-match = c .before .before .before .before in
+    let at-stored-bits = at-match .before in
+    let at-if1 = at-stored-bits .before .before in
+    let entry = at-if1 .before .before in
+    written-by (entry .args .self) _ _ _ _ _ _ (at-stored-bits .stored-bits .ensures) (at-if1 .if1 .left) _ (is-control3 _ _ _ (at-match .match .keys3)) (c .before .before .control3-written .ensures)
 
 returns-5 : tie.Need-returns-5
 returns-5 c =
-    written-by (c .before .before .before .before .before .before .args .self) _ _ _ _ _ _ (c .before .before .stored-bits .ensures) (c .before .before .before .before .if1 .left) _ (is-reset _ _ _ (c .before .match .keys4)) (quiet-does _ _ (c .reset-written .ensures) _)
+    let at-if1 = c .before .before .before .before in
+    let entry = at-if1 .before .before in
+    written-by (entry .args .self) _ _ _ _ _ _ (c .before .before .stored-bits .ensures) (at-if1 .if1 .left) _ (is-reset _ _ _ (c .before .match .keys4)) (quiet-does _ _ (c .reset-written .ensures) _)
 
 returns-6 : tie.Need-returns-6
 returns-6 c =
+    let at-if1 = c .before .before .before .before in
+    let entry = at-if1 .before .before in
     let k = c .before .match .rest in
-    let a = c .before .before .before .before .before .before .pre .0 .arranged in
+    let a = entry .pre .0 .arranged in
     rw (c .done .ensures)
-    (written-by (c .before .before .before .before .before .before .args .self) _ _ _ _ _ _ (c .before .before .stored-bits .ensures) (c .before .before .before .before .if1 .left) _ (is-plain _ _ _ (k .0 .0 .0 .1) (k .0 .0 .1) (k .0 .1) (k .1)) (rests _ (stored-arranged _ a _ _) _))
+    (written-by (entry .args .self) _ _ _ _ _ _ (c .before .before .stored-bits .ensures) (at-if1 .if1 .left) _ (is-plain _ _ _ (k .0 .0 .0 .1) (k .0 .0 .1) (k .0 .1) (k .1)) (rests _ (stored-arranged _ a _ _) _))
 
 pub written-spec : {M : Type 1} → statement M
 written-spec =

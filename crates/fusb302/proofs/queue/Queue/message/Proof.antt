@@ -63,7 +63,8 @@ array-read-if5 c = search needs
 
 returns-5 : tie.Need-returns-5
 returns-5 c =
-    let f = c .before .before .before .before .before in
+    let at-if4 = c .before in
+    let f = at-if4 .before .before .before .before in
     let a = f .before .before .announced in
     let q = f .before .before .before .before .args .self in
     spelt-no-eop (q .octets) (q .len) (a .result) (a .ensures) (f .if2 .left) (omega arith) (c .if5 .taken)
@@ -76,15 +77,17 @@ array-read-if6 c = search needs
 
 returns-6 : tie.Need-returns-6
 returns-6 c =
-    let f = c .before .before .before .before .before .before in
+    let at-if4 = c .before .before in
+    let f = at-if4 .before .before .before .before in
     let a = f .before .before .announced in
     let q = f .before .before .before .before .args .self in
     spelt-no-off (q .octets) (q .len) (a .result) (a .ensures) (f .if2 .left) (omega arith) (c .if6 .taken)
 
 returns-7 : tie.Need-returns-7
 returns-7 c =
-    let f = c .before .before .before .before .before .before in
-    let k = c .before .before .before .before .kind-of in
+    let at-kind-of = c .before .before .before .before in
+    let f = at-kind-of .before .before in
+    let k = at-kind-of .kind-of in
     let a = f .before .before .announced in
     let q = f .before .before .before .before .args .self in
     spelt-whole (q .octets) (q .len) (a .result) (a .ensures) (f .if2 .left) (omega arith)
