@@ -13,9 +13,8 @@ use lib.Dec.{ltb, leb, eqb}
 use lib.ListN.{length, take, drop, getD, set, length-take, length-drop, drop-of-length-le, List·getD-eq-default}
 use lib.Seq.{take-suc-set, length-take-le, drop-cons, getD-take, take-take}
 use Rattle.line.specs.Symbol.{sync-1, sync-2, sync-3, rst-1, rst-2}
-use Rattle.line.specs.Kind.{orderedSets, sopKinds, carries}
+use Rattle.line.specs.Kind.{orderedSets, sopKinds, carries, common, kindFrom}
 use Rattle.line.specs.Frame.{Frame}
-use Rattle.line.specs.Read.{common, kindFrom}
 use Rattle.line.proofs.Keys.{None}
 use Rattle.machine.specs.Registers.{between}
 use Rattle.machine.specs.Queue.{setSymbol, announced, isToken, toCome, sameList, CRC, EOP, TXOFF, START, closing, speltBy, spelt}

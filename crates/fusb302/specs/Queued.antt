@@ -7,9 +7,8 @@ use mathlib.Core.Option.{Option, none, some}
 use Prim.Native.Nat.{ℕ, _≤_}
 use lib.Dec.{ltb}
 use lib.ListN.{length, take, drop}
-use Rattle.line.specs.Kind.{orderedSets, sopKinds}
+use Rattle.line.specs.Kind.{orderedSets, sopKinds, kindFrom}
 use Rattle.line.specs.Frame.{Frame}
-use Rattle.line.specs.Read.{kindFrom}
 use Rattle.machine.specs.Status.{txRoom}
 use Rattle.machine.specs.Queue.{setSymbol, toCome}
 use Rattle.fusb302.specs.declared.queue.Queue.{Queue}

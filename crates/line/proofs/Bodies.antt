@@ -10,9 +10,9 @@ use borrow.Author.Tests.{ltb-true, ltb-false, leb-true, eqb-true, eqb-false, lt-
 use lib.Dec.{ltb, leb, eqb, lit<}
 use lib.ListN.{length, take, drop, getD, replicate, length-append, length-replicate, List·getD-append}
 use lib.Seq.{take-at, length-take-le, getD-at, getD-take, split-at}
-use Rattle.line.proofs.Nibbles.{Nibbles, nibbles-at, nibbles-append, spelt-nibbles, length-spelt, octets-spelt, octets-of, spelt-octets}
+use Rattle.line.proofs.Nibbles.{Nibbles, nibbles-at, nibbles-append, encoded-nibbles, length-encoded, octets-encoded, octets-of, encoded-octets}
 use Rattle.line.proofs.Looks.{Begun, Part, whole-part, Stands, Ends, Says}
-use Rattle.line.specs.Symbol.{eop, placeOf, nibbleOf, isNibble, spelt, octetsOf}
+use Rattle.line.specs.Symbol.{eop, placeOf, nibbleOf, isNibble, encoded, octetsOf}
 use Rattle.line.specs.Frame.{Octets}
 use Rattle.line.specs.Read.{found, short, misfit, nibbleRun, mayEnd, endOr, bodyAt}
 
@@ -85,32 +85,32 @@ pub record Sized (m : List ℕ) : Type 0 where
   pub few : length m ≤ 34
 
 abbrev pub body : List ℕ → List ℕ
-body m = spelt m ++ (eop ∷ [])
+body m = encoded m ++ (eop ∷ [])
 
 pub body-back : (m x : List ℕ) → Sized m → bodyAt (body m ++ x) ≡ found m
 unfolding bodyAt endOr
 body-back m x sized =
-    let l = spelt m ++ (eop ∷ x) in
-    let q = length-spelt m in
+    let l = encoded m ++ (eop ∷ x) in
+    let q = length-encoded m in
     let c = sized .many in
     let d = sized .few in
-    let n = length (spelt m) in
-    let longer : eqb n (length l) ≡ false = ne-eqb n (length l) (omega (arith, length-append (spelt m) (eop ∷ x))) in
+    let n = length (encoded m) in
+    let longer : eqb n (length l) ≡ false = ne-eqb n (length l) (omega (arith, length-append (encoded m) (eop ∷ x))) in
     let end : mayEnd n eop ≡ true = true-end n eop (record { is-eop = refl; many = omega arith; even = omega arith }) in
     simp (
       append-assoc,
-      run-back (spelt m) x 68 (spelt-nibbles m (sized .octets)) (omega arith),
+      run-back (encoded m) x 68 (encoded-nibbles m (sized .octets)) (omega arith),
       longer,
-      getD-at (spelt m) eop x 0 n refl,
+      getD-at (encoded m) eop x 0 n refl,
       end,
-      take-at (spelt m) (eop ∷ x) n refl,
-      octets-spelt m (sized .octets),
+      take-at (encoded m) (eop ∷ x) n refl,
+      octets-encoded m (sized .octets),
     )
 
 -- an even number of nibbles, 12 to 68
 of-nibbles : (a : List ℕ) → Nibbles a → length a % 2 ≡ 0 → 12 ≤ length a → length a ≤ 68 → Sized (octetsOf a)
 of-nibbles a q even lo hi =
-    let n : length a ≡ 2 * length (octetsOf a) = sym (ap length (spelt-octets a q even)) ∙ length-spelt (octetsOf a) in
+    let n : length a ≡ 2 * length (octetsOf a) = sym (ap length (encoded-octets a q even)) ∙ length-encoded (octetsOf a) in
     record { octets = octets-of a q; many = omega arith; few = omega arith }
 
 zeros : (n : ℕ) → Nibbles (replicate n 0x1E)
@@ -132,7 +132,7 @@ nibbles-part a q h =
             thing = octetsOf b;
             right = of-nibbles b nibbles even (omega arith) (omega arith);
             rest = pad ++ (eop ∷ []);
-            is = sym (append-assoc a pad (eop ∷ [])) ∙ ap (λ (x : List ℕ). x ++ (eop ∷ [])) (sym (spelt-octets b nibbles even));
+            is = sym (append-assoc a pad (eop ∷ [])) ∙ ap (λ (x : List ℕ). x ++ (eop ∷ [])) (sym (encoded-octets b nibbles even));
           };
       more = omega (arith, length-append pad (eop ∷ []));
     }
@@ -163,7 +163,7 @@ module _ (l : List ℕ) where
             split-at l count 0 h
             ∙ ap (λ (s : ℕ). take count l ++ s ∷ drop (suc count) l) (end .is-eop)
             ∙ sym (append-assoc (take count l) (eop ∷ []) (drop (suc count) l))
-            ∙ ap (λ (a : List ℕ). a ++ (eop ∷ []) ++ drop (suc count) l) (sym (spelt-octets (take count l) (r .nibbles) even));
+            ∙ ap (λ (a : List ℕ). a ++ (eop ∷ []) ++ drop (suc count) l) (sym (encoded-octets (take count l) (r .nibbles) even));
       }
 
   -- a symbol that fits behind the nibbles is EOP, at a place for it
@@ -174,7 +174,7 @@ module _ (l : List ℕ) where
       let s = getD l count 0 in
       let many = b .right .many in
       let few = b .right .few in
-      let spelt-long = length-spelt m in
+      let encoded-long = length-encoded m in
       let taken = length-take-le (suc count) l h in
       let long : suc count + length (b .rest) ≡ 2 * length m + 1 =
       omega (arith, simp length-append at (ap length (b .is)), taken) in
@@ -182,12 +182,12 @@ module _ (l : List ℕ) where
       sym (getD-take (suc count) l count 0 (omega arith))
       ∙ sym (List·getD-append (take (suc count) l) (b .rest) 0 count (omega arith))
       ∙ ap (λ (x : List ℕ). getD x count 0) (b .is) in
-      elim (decLt count (length (spelt m))) [
+      elim (decLt count (length (encoded m))) [
         | yes p ↦
-            let here : s ≡ getD (spelt m) count 0 = same ∙ List·getD-append (spelt m) (eop ∷ []) 0 count p in
-            let nibble : nibbleOf s < 16 = rw here (nibbles-at (spelt m) (spelt-nibbles m (b .right .octets)) count p) in
+            let here : s ≡ getD (encoded m) count 0 = same ∙ List·getD-append (encoded m) (eop ∷ []) 0 count p in
+            let nibble : nibbleOf s < 16 = rw here (nibbles-at (encoded m) (encoded-nibbles m (b .right .octets)) count p) in
             absurd (omega (arith, run 68 l .stop (omega arith) h))
-        | no p ↦ record { is-eop = same ∙ getD-at (spelt m) eop [] 0 count (omega arith); many = omega arith; even = omega arith }
+        | no p ↦ record { is-eop = same ∙ getD-at (encoded m) eop [] 0 count (omega arith); many = omega arith; even = omega arith }
       ]
 
   ends : count < length l → mayEnd count (getD l count 0) ≡ false → Ends Sized body l count

@@ -8,7 +8,7 @@ use native.Mathlib.Omega.{arith}
 use native.Mathlib.Decide.{decLe}
 use borrow.Author.Tests.{lt-ltb, le-ltb}
 use lib.ListN.{length, take, drop, length-append, take-append-drop}
-use lib.Seq.{drop-append-seam, take-take, take-length}
+use lib.Seq.{take-take, take-length}
 use Rattle.line.proofs.Looks.{empty, Begun, Part, Stands, Ends, Says}
 use Rattle.line.proofs.Bodies.{Sized}
 use Rattle.line.proofs.Shapes.{sized-of, length-drawn, shape-back, one-shape, shape-says}
@@ -17,8 +17,8 @@ use Rattle.line.specs.Kind.{kinds, sopKinds, carries}
 use Rattle.line.specs.Frame.{Frame, Whole, Shape, Shaped, drawn, sealed, symbolsOf}
 use Rattle.line.specs.Read.{Look, found, short, misfit, First, frame, wrongCrc, tooShort, noFrame, checked, firstOf, shapeAt, first}
 use Rattle.line.specs.Crc.{crcRight}
-use Rattle.line.specs.Place.{Begins, Cut, Longest, Holds, Spoilt}
-use Rattle.line.specs.Theorems.{ReadsBack, LeavesRest, FrameExactly, WrongCrcExactly, TooShortExactly, NoFrameExactly}
+use Rattle.line.specs.Place.{Begins, Cut, Longest, Intact, Spoilt}
+use Rattle.line.specs.Theorems.{ReadsBack, FrameExactly, WrongCrcExactly, TooShortExactly, NoFrameExactly}
 
 -- ---- frames and their shapes
 
@@ -50,25 +50,22 @@ pub reads-back : ReadsBack
 unfolding first firstOf symbolsOf
 reads-back f x w = ap firstOf (shape-back (sealed f) x (sealed-shaped f w)) ∙ checked-sealed f w
 
-pub leaves-rest : LeavesRest
-leaves-rest f x = drop-append-seam (symbolsOf f) x
-
 -- ---- what each answer means
 
 Meaning : List ℕ → First → Type 0
-Meaning line (frame s) = Holds line s
+Meaning line (frame s) = Intact line s
 Meaning line (wrongCrc p) = Spoilt line p
 Meaning line (tooShort p) = Cut line × (p ≡ length line)
 Meaning line (noFrame p) = (p < length line) × Longest line p
 
 -- a frame with this shape begins the record
-holds : (line : List ℕ) (s : Shape) → Stands Shaped drawn line s → Whole (unsealed s) → s ≡ sealed (unsealed s) → Holds line s
+intact : (line : List ℕ) (s : Shape) → Stands Shaped drawn line s → Whole (unsealed s) → s ≡ sealed (unsealed s) → Intact line s
 unfolding symbolsOf
-holds line s st w e =
+intact line s st w e =
     record { frame = unsealed s; whole = w; seals = e; rest = st .rest; is = st .is ∙ ap (λ (t : Shape). drawn t ++ st .rest) e }
 
 module _ (line : List ℕ) (s : Shape) (st : Stands Shaped drawn line s) where
-  right-means : s .kind < sopKinds → Sized (s .octets) → crcRight (s .octets) ≡ true → Holds line s
+  right-means : s .kind < sopKinds → Sized (s .octets) → crcRight (s .octets) ≡ true → Intact line s
   unfolding sealed unsealed carries
   right-means h z e =
       let m = s .octets in
@@ -76,7 +73,7 @@ module _ (line : List ℕ) (s : Shape) (st : Stands Shaped drawn line s) where
       let hi = z .few in
       let n = length-payload m in
       let there = crc-there m (z .octets) (omega arith) e in
-      holds line s st
+      intact line s st
       (Whole.message h (octets-payload m (z .octets)) (omega arith) (omega arith))
       (rw (lt-ltb (s .kind) sopKinds h) (λ i. record { kind = s .kind; octets = there i }))
 
@@ -98,10 +95,10 @@ module _ (line : List ℕ) (s : Shape) (st : Stands Shaped drawn line s) where
   message-means h z true e = right-means h z e
   message-means h z false e = wrong-means h e
 
-  alone-means : sopKinds ≤ s .kind → s .kind < kinds → s .octets ≡ [] → Holds line s
+  alone-means : sopKinds ≤ s .kind → s .kind < kinds → s .octets ≡ [] → Intact line s
   unfolding sealed unsealed carries payload
   alone-means h k e =
-      holds line s st
+      intact line s st
       (Whole.alone h k (ap payload e))
       (rw (le-ltb (s .kind) sopKinds h) (λ i. record { kind = s .kind; octets = e i }))
 
@@ -145,9 +142,9 @@ part-cut : {l : List ℕ} → Part Shaped drawn l → Cut l
 unfolding to-begins
 part-cut p = record { begins = to-begins (p .begun); more = λ e. omega (arith, ap length e, p .more) }
 
-holds-stands : {line : List ℕ} {s : Shape} (h : Holds line s) → Stands Shaped drawn line (sealed (h .frame))
+intact-stands : {line : List ℕ} {s : Shape} (h : Intact line s) → Stands Shaped drawn line (sealed (h .frame))
 unfolding symbolsOf
-holds-stands h = record { right = sealed-shaped (h .frame) (h .whole); rest = h .rest; is = h .is }
+intact-stands h = record { right = sealed-shaped (h .frame) (h .whole); rest = h .rest; is = h .is }
 
 -- a record that begins with a whole shape is no part of one
 whole-uncut : {line : List ℕ} {s : Shape} → Stands Shaped drawn line s → Cut line → ⊥
@@ -176,8 +173,8 @@ module _ (line : List ℕ) where
   answer-means : (f : First) → first line ≡ f → Meaning line f
   answer-means f e = subst (Meaning line) e (means line)
 
-  holds-answer : (s : Shape) → Holds line s → first line ≡ frame s
-  holds-answer s h = ap first (h .is) ∙ reads-back (h .frame) (h .rest) (h .whole) ∙ ap frame (sym (h .seals))
+  intact-answer : (s : Shape) → Intact line s → first line ≡ frame s
+  intact-answer s h = ap first (h .is) ∙ reads-back (h .frame) (h .rest) (h .whole) ∙ ap frame (sym (h .seals))
 
   spoilt-answer : (p : ℕ) → Spoilt line p → first line ≡ wrongCrc p
   unfolding first firstOf checked carries
@@ -201,7 +198,7 @@ module _ (line : List ℕ) where
   cut-answer p c = go (first line) (means line)
     where
       go : (f : First) → Meaning line f → f ≡ tooShort p
-      go (frame s) m = absurd (whole-uncut (holds-stands m) (c .0))
+      go (frame s) m = absurd (whole-uncut (intact-stands m) (c .0))
       go (wrongCrc q) m = absurd (whole-uncut (record { right = m .shaped; rest = m .rest; is = m .is }) (c .0))
       go (tooShort q) m = ap tooShort (m .1 ∙ sym (c .1))
       go (noFrame q) m =
@@ -209,13 +206,13 @@ module _ (line : List ℕ) where
           let h = m .0 in
           absurd (omega (arith, m .1 .most (length line) (omega arith) begins))
 
-  nothing-answer : (p : ℕ) → ((s : Shape) → Holds line s → ⊥) → ((q : ℕ) → Spoilt line q → ⊥) → (Cut line → ⊥) → Longest line p
+  nothing-answer : (p : ℕ) → ((s : Shape) → Intact line s → ⊥) → ((q : ℕ) → Spoilt line q → ⊥) → (Cut line → ⊥) → Longest line p
       → first line ≡ noFrame p
   unfolding Meaning
-  nothing-answer p unheld unspoilt uncut l = go (first line) (means line)
+  nothing-answer p unintact unspoilt uncut l = go (first line) (means line)
     where
       go : (f : First) → Meaning line f → f ≡ noFrame p
-      go (frame s) m = absurd (unheld s m)
+      go (frame s) m = absurd (unintact s m)
       go (wrongCrc q) m = absurd (unspoilt q m)
       go (tooShort q) m = absurd (uncut (m .0))
       go (noFrame q) m =
@@ -225,8 +222,8 @@ module _ (line : List ℕ) where
 
   -- where the answer is noFrame, what the other answers mean is not so
   module _ (p : ℕ) (e : first line ≡ noFrame p) where
-    unheld : (s : Shape) → Holds line s → ⊥
-    unheld s h = let f = holds-answer s h in let z : _≡_ {A = ℕ} 0 1 = cc in omega arith
+    unintact : (s : Shape) → Intact line s → ⊥
+    unintact s h = let f = intact-answer s h in let z : _≡_ {A = ℕ} 0 1 = cc in omega arith
 
     unspoilt : (q : ℕ) → Spoilt line q → ⊥
     unspoilt q t = let f = spoilt-answer q t in let z : _≡_ {A = ℕ} 0 1 = cc in omega arith
@@ -236,7 +233,7 @@ module _ (line : List ℕ) where
 
 pub frame-exactly : FrameExactly
 unfolding Meaning
-frame-exactly line s = (answer-means line (frame s), holds-answer line s)
+frame-exactly line s = (answer-means line (frame s), intact-answer line s)
 
 pub wrong-crc-exactly : WrongCrcExactly
 unfolding Meaning
@@ -249,6 +246,6 @@ too-short-exactly line p = (answer-means line (tooShort p), cut-answer line p)
 pub no-frame-exactly : NoFrameExactly
 unfolding Meaning
 no-frame-exactly line p = (
-  λ e. (unheld line p e, unspoilt line p e, uncut line p e, answer-means line (noFrame p) e .1),
+  λ e. (unintact line p e, unspoilt line p e, uncut line p e, answer-means line (noFrame p) e .1),
   λ n. nothing-answer line p (n .0) (n .1) (n .2) (n .3),
 )

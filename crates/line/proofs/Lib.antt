@@ -7,6 +7,7 @@ pub mod Bodies
 pub mod Shapes
 pub mod Crcs
 pub mod Exactly
+pub mod Tails
 pub mod Division
 pub mod Outcomes
 pub mod Keys

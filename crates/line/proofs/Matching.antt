@@ -9,8 +9,8 @@ use native.Mathlib.Omega.{arith}
 use borrow.Author.Tests.{eq-eqb, ne-eqb}
 use lib.ListN.{length, drop, getD, drop-of-length-le}
 use lib.Seq.{drop-cons}
-use Rattle.line.specs.Kind.{orderedSets, kinds, setOf}
-use Rattle.line.specs.Read.{found, short, misfit, common, kindFrom, furthest, setOr, setAt}
+use Rattle.line.specs.Kind.{orderedSets, kinds, setOf, common, kindFrom}
+use Rattle.line.specs.Read.{found, short, misfit, furthest, setOr, setAt}
 
 -- ---- how much two lists have in common
 

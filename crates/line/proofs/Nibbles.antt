@@ -11,7 +11,7 @@ use lib.Arith.{digits-div, digits-mod}
 use lib.Dec.{eqb, eqb→eq, lit<}
 use lib.ListN.{length, getD}
 use Rattle.line.proofs.Table.{at}
-use Rattle.line.specs.Symbol.{nibbleSymbols, symbolOf, placeOf, nibbleOf, spelt, octetsOf}
+use Rattle.line.specs.Symbol.{nibbleSymbols, symbolOf, placeOf, nibbleOf, encoded, octetsOf}
 use Rattle.line.specs.Frame.{Octets}
 
 -- ---- a nibble and its symbol
@@ -62,28 +62,28 @@ low b = mod-lt b (lit< tt)
 high : (b : ℕ) → b < 256 → b / 16 < 16
 high b h = omega arith
 
-pub spelt-nibbles : (m : List ℕ) → Octets m → Nibbles (spelt m)
-unfolding spelt
-spelt-nibbles [] o = tt
-spelt-nibbles (b ∷ bs) o =
+pub encoded-nibbles : (m : List ℕ) → Octets m → Nibbles (encoded m)
+unfolding encoded
+encoded-nibbles [] o = tt
+encoded-nibbles (b ∷ bs) o =
     let p = back (b % 16) (low b) in
     let q = back (b / 16) (high b (o .0)) in
     let r = high b (o .0) in
     let s = low b in
-    (omega arith, (omega arith, spelt-nibbles bs (o .1)))
+    (omega arith, (omega arith, encoded-nibbles bs (o .1)))
 
-pub length-spelt : (m : List ℕ) → length (spelt m) ≡ 2 * length m
-unfolding spelt
-length-spelt [] = refl
-length-spelt (b ∷ bs) = let e = length-spelt bs in omega arith
+pub length-encoded : (m : List ℕ) → length (encoded m) ≡ 2 * length m
+unfolding encoded
+length-encoded [] = refl
+length-encoded (b ∷ bs) = let e = length-encoded bs in omega arith
 
-pub octets-spelt : (m : List ℕ) → Octets m → octetsOf (spelt m) ≡ m
-unfolding spelt octetsOf
-octets-spelt [] o = refl
-octets-spelt (b ∷ bs) o =
+pub octets-encoded : (m : List ℕ) → Octets m → octetsOf (encoded m) ≡ m
+unfolding encoded octetsOf
+octets-encoded [] o = refl
+octets-encoded (b ∷ bs) o =
     let p = back (b % 16) (low b) in
     let q = back (b / 16) (high b (o .0)) in
-    ap₂ (λ (x : ℕ) (l : List ℕ). x ∷ l) (omega arith) (octets-spelt bs (o .1))
+    ap₂ (λ (x : ℕ) (l : List ℕ). x ∷ l) (omega arith) (octets-encoded bs (o .1))
 
 -- ---- symbols as octets
 
@@ -93,14 +93,14 @@ octets-of [] q = tt
 octets-of (s ∷ []) q = tt
 octets-of (s ∷ t ∷ l) q = (omega arith, octets-of l (q .1 .1))
 
-pub spelt-octets : (l : List ℕ) → Nibbles l → length l % 2 ≡ 0 → spelt (octetsOf l) ≡ l
-unfolding spelt octetsOf
-spelt-octets [] q e = refl
-spelt-octets (s ∷ []) q e = absurd (omega arith)
-spelt-octets (s ∷ t ∷ l) q e =
+pub encoded-octets : (l : List ℕ) → Nibbles l → length l % 2 ≡ 0 → encoded (octetsOf l) ≡ l
+unfolding encoded octetsOf
+encoded-octets [] q e = refl
+encoded-octets (s ∷ []) q e = absurd (omega arith)
+encoded-octets (s ∷ t ∷ l) q e =
     let a = nibbleOf s in
     let b = nibbleOf t in
     let o : (a + 16 * b) % 16 ≡ a = ap (λ (x : ℕ). x % 16) (omega arith) ∙ digits-mod b (q .0) in
     let p : (a + 16 * b) / 16 ≡ b = ap (λ (x : ℕ). x / 16) (omega arith) ∙ digits-div b (q .0) in
-    let ih = spelt-octets l (q .1 .1) (omega arith) in
+    let ih = encoded-octets l (q .1 .1) (omega arith) in
     rw (o, p, forth s (q .0), forth t (q .1 .0), ih)

@@ -9,7 +9,7 @@ use Rattle.line.specs.declared.write.Written.{Written}
 use Rattle.line.specs.declared.write.Written.the-variants.{Sent, SmallBuffer as SmallRoom, UnknownKind, WrongLength}
 use Rattle.line.specs.Write.{Wrote, sent, written}
 use Rattle.line.specs.Reader.{Said, read, no, noAt, said}
-use Rattle.line.specs.Theorems.{OneMeaningWritten, OneMeaningSaid, OneCrc, OneRight, OneRest, OneWriting, OneReading}
+use Rattle.line.specs.Theorems.{OneMeaningWritten, OneMeaningSaid, OneCrc, OneRight, OneRest, OneWriting, OneReading, OneFirstReading}
 
 -- ---- the answer of a meaning
 
@@ -52,10 +52,16 @@ pub one-right : OneRight
 one-right l r s p q = p ∙ sym q
 
 pub one-rest : OneRest
-one-rest line at r s p q = p ∙ sym q
+one-rest line at r s p q =
+    record { place = λ i. ((p .block ∙ sym (q .block)) i, (p .offset ∙ sym (q .offset)) i); symbols = p .holds ∙ sym (q .holds) }
 
 pub one-writing : OneWriting
 one-writing f before r s a b p q = (one-meaning-written r s (p .says ∙ sym (q .says)), p .leaves ∙ sym (q .leaves))
 
 pub one-reading : OneReading
 one-reading line at before r s a b p q = (one-meaning-said r s (p .says ∙ sym (q .says)), p .leaves ∙ sym (q .leaves))
+
+pub one-first-reading : OneFirstReading
+one-first-reading line before r s a b p q =
+    let o = one-reading _ _ before (r .answer) (s .answer) a b (p .reads) (q .reads) in
+    (o .0, one-rest line _ (r .rest) (s .rest) (p .leaves) (q .leaves), o .1)

@@ -36,6 +36,10 @@ part-is l n = take-all (length l - n) (drop n l) (rw length-drop (omega arith))
 pub part-none : (l : List ℕ) (n : ℕ) → length l < n → take (length l - length l) (drop (length l) l) ≡ drop n l
 part-none l n h = part-is l (length l) ∙ drop-of-length-le l {i = length l} (omega arith) ∙ sym (drop-of-length-le l {i = n} (omega arith))
 
+-- how much of the record a part has
+pub rest-long : (l rest : List ℕ) (n : ℕ) → rest ≡ drop n l → length rest ≡ length l - n
+rest-long l rest n e = ap length e ∙ length-drop n l
+
 -- ---- nibbles counted
 
 pub record Counted (l : List ℕ) (n : ℕ) : Type 0 where
@@ -106,11 +110,11 @@ pairs-length (suc n) (s ∷ []) e = absurd (omega arith)
 pairs-length (suc n) (s ∷ t ∷ l) e = ap suc (pairs-length n l (omega arith))
 
 module _ (body : List ℕ) (n : ℕ) (h : 2 * n ≤ nibbleRun 68 body) where
-  pub few-pairs : n ≤ 34
-  few-pairs = let z = run 68 body .most in omega arith
+  pub pairs-within : 2 * n ≤ length body
+  pairs-within = let z = run 68 body .within in omega arith
 
   pub length-pairs : length (octetsOf (take (2 * n) body)) ≡ n
-  length-pairs = let z = run 68 body .within in pairs-length n (take (2 * n) body) (length-take-le (2 * n) body (omega arith))
+  length-pairs = pairs-length n (take (2 * n) body) (length-take-le (2 * n) body pairs-within)
 
 -- ---- a message by its CRC: its n octets are held in an array
 
@@ -150,6 +154,9 @@ module _ (at k : ℕ) (body before : List ℕ) (n : ℕ) (e : n ≡ nibbleRun 68
   body-is : bodyAt body ≡ endOr n body
   unfolding bodyAt
   body-is = ap (λ (i : ℕ). endOr i body) (sym e)
+
+  pub body-most : n ≤ 68
+  body-most = let z = run 68 body .most in omega arith
 
   pub body-within : n ≤ length body
   body-within = let z = run 68 body .within in omega arith

@@ -10,7 +10,7 @@ use borrow.Author.Tests.{ltb-true, ltb-false, lt-ltb, le-ltb}
 use lib.Dec.{ltb, lit<, lit≤}
 use lib.ListN.{length, take, drop, replicate, length-append, take-append-drop}
 use lib.Seq.{drop-at, take-append-add, take-append-le, take-append-seam, length-take-le}
-use Rattle.line.proofs.Nibbles.{length-spelt}
+use Rattle.line.proofs.Nibbles.{length-encoded}
 use Rattle.line.proofs.Looks.{Begun, Part, Stands, Ends, Says}
 use Rattle.line.proofs.Starts.{IsKind, set-length, set-back, set-says}
 use Rattle.line.proofs.Bodies.{Sized, body, body-back, body-says}
@@ -44,7 +44,7 @@ pub length-drawn : (s : Shape) → s .kind < sopKinds → length (drawn s) ≡ 4
 length-drawn s h =
     let m = s .octets in
     let e = ap length (drawn-message (s .kind) m h) in
-    omega (arith, simp length-append at e, set-length (s .kind) (omega arith), length-spelt m)
+    omega (arith, simp length-append at e, set-length (s .kind) (omega arith), length-encoded m)
 
 drawn-alone : (k : ℕ) (m : List ℕ) → sopKinds ≤ k → drawn (record { kind = k; octets = m }) ≡ setOf k
 unfolding drawn carries

@@ -13,8 +13,8 @@ use lib.ListN.{length, take, drop, getD, length-append, take-append-drop}
 use lib.Seq.{take-at, length-take-le}
 use Rattle.line.proofs.Table.{at}
 use Rattle.line.proofs.Looks.{empty, Part, whole-part, Stands, Ends, Says}
-use Rattle.line.specs.Kind.{orderedSets, kinds, setOf}
-use Rattle.line.specs.Read.{found, short, misfit, common, kindFrom, furthest, setOr, setAt}
+use Rattle.line.specs.Kind.{orderedSets, kinds, setOf, common, kindFrom}
+use Rattle.line.specs.Read.{found, short, misfit, furthest, setOr, setAt}
 
 -- ---- what a set and a record have in common
 

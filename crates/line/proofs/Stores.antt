@@ -9,7 +9,7 @@ use native.Mathlib.Omega.{arith}
 use lib.Bits.{bitAnd, and-mask}
 use lib.ListN.{length, take, drop, set, getD, drop-of-length-le}
 use lib.Seq.{drop-cons, sets, sets-eq, length-take-le, getD-take}
-use Rattle.line.specs.Symbol.{symbolOf, spelt, nibbleOf, octetsOf}
+use Rattle.line.specs.Symbol.{symbolOf, encoded, nibbleOf, octetsOf}
 
 -- ---- runs
 
@@ -36,14 +36,14 @@ four S (a ∷ b ∷ c ∷ d ∷ e ∷ l) h = absurd (omega arith)
 
 pub put-more : (S T octets : List ℕ) (o i a b : ℕ) → i < length octets
     → a ≡ symbolOf (bitAnd (getD octets i 0) 15) → b ≡ symbolOf (getD octets i 0 / 16)
-    → sets S o (spelt (drop i octets)) ≡ T
-    → sets (set (set S o a) (o + 1) b) (o + 2) (spelt (drop (i + 1) octets)) ≡ T
-unfolding spelt
+    → sets S o (encoded (drop i octets)) ≡ T
+    → sets (set (set S o a) (o + 1) b) (o + 2) (encoded (drop (i + 1) octets)) ≡ T
+unfolding encoded
 put-more S T octets o i a b h p q e =
     rw (add-one i, add-one o, add-two o, p, and-mask (getD octets i 0) 4, q) (rw (drop-cons octets i 0) at e)
 
-pub put-all : (S T octets : List ℕ) (o i : ℕ) → length octets ≤ i → sets S o (spelt (drop i octets)) ≡ T → S ≡ T
-unfolding spelt
+pub put-all : (S T octets : List ℕ) (o i : ℕ) → length octets ≤ i → sets S o (encoded (drop i octets)) ≡ T → S ≡ T
+unfolding encoded
 put-all S T octets o i h e = rw (drop-of-length-le octets) at e
 
 -- ---- a copy of n elements

@@ -1,17 +1,17 @@
 -- The worked examples, computed.
 -- Assumes nothing.
 use mathlib.Core.Path.{refl}
-use Rattle.line.specs.Symbol.{symbolOf, placeOf, nibbleOf, isNibble, spelt, octetsOf}
-use Rattle.line.specs.Kind.{setOf, carries}
+use Rattle.line.specs.Symbol.{symbolOf, placeOf, nibbleOf, isNibble, encoded, octetsOf}
+use Rattle.line.specs.Kind.{setOf, carries, common, kindFrom}
 use Rattle.line.specs.Crc.{poly, crcBit, crcBits, crcOctet, crcFrom, crcOf, fourOctets, withCrc, number, crcRight}
 use Rattle.line.specs.Frame.{drawn, sealed, symbolsOf}
 use Rattle.line.specs.Refusal.{firstNo}
-use Rattle.line.specs.Read.{common, kindFrom, furthest, setOr, setAt, nibbleRun, mayEnd, endOr, bodyAt, withSet, afterSet, shapeAt, checked, firstOf, first}
+use Rattle.line.specs.Read.{furthest, setOr, setAt, nibbleRun, mayEnd, endOr, bodyAt, withSet, afterSet, shapeAt, checked, firstOf, first}
 use Rattle.line.specs.Reader.{saysOf}
 use Rattle.line.specs.Examples.{Examples}
 
 pub examples : Examples
-unfolding symbolOf placeOf nibbleOf isNibble spelt octetsOf setOf carries poly crcBit crcBits crcOctet crcFrom crcOf fourOctets withCrc drawn sealed symbolsOf firstNo common kindFrom furthest setOr setAt nibbleRun mayEnd endOr bodyAt withSet afterSet shapeAt number crcRight checked firstOf first saysOf
+unfolding symbolOf placeOf nibbleOf isNibble encoded octetsOf setOf carries poly crcBit crcBits crcOctet crcFrom crcOf fourOctets withCrc drawn sealed symbolsOf firstNo common kindFrom furthest setOr setAt nibbleRun mayEnd endOr bodyAt withSet afterSet shapeAt number crcRight checked firstOf first saysOf
 examples =
     record {
       nothing = refl;

@@ -12,7 +12,7 @@ use lib.ListN.{length, set, length-append}
 use lib.Seq.{sets}
 use Rattle.line.specs.declared.write.Written.{Written}
 use Rattle.line.specs.declared.write.Written.the-variants.{Sent, SmallBuffer, UnknownKind, WrongLength}
-use Rattle.line.specs.Symbol.{symbolOf, spelt, eop}
+use Rattle.line.specs.Symbol.{symbolOf, encoded, eop}
 use Rattle.line.specs.Kind.{kinds, setOf, sopKinds, carries}
 use Rattle.line.specs.Crc.{crcOf, fourOctets, withCrc}
 use Rattle.line.specs.Frame.{Frame, message, alone, drawn, sealed, symbolsOf}
@@ -20,7 +20,7 @@ use Rattle.line.specs.Refusal.{firstNo}
 use Rattle.line.specs.Write.{frameRoom, wrongLength, written, writerRows, sent, wrote, lent, Put, Writes}
 use Rattle.line.specs.Theorems.{FrameLengths}
 use Rattle.line.proofs.Stores.{sets-append, sets-front}
-use Rattle.line.proofs.Nibbles.{length-spelt}
+use Rattle.line.proofs.Nibbles.{length-encoded}
 use Rattle.line.proofs.Starts.{set-length}
 
 -- ---- a frame's symbols
@@ -33,29 +33,29 @@ pub bare : (k : ℕ) → sopKinds ≤ k → carries k ≡ false
 unfolding carries
 bare k h = le-ltb k sopKinds h
 
-spelt-append : (a b : List ℕ) → spelt (a ++ b) ≡ spelt a ++ spelt b
-unfolding spelt
-spelt-append [] b = refl
-spelt-append (x ∷ xs) b = ap (λ (l : List ℕ). symbolOf (x % 16) ∷ symbolOf (x / 16) ∷ l) (spelt-append xs b)
+encoded-append : (a b : List ℕ) → encoded (a ++ b) ≡ encoded a ++ encoded b
+unfolding encoded
+encoded-append [] b = refl
+encoded-append (x ∷ xs) b = ap (λ (l : List ℕ). symbolOf (x % 16) ∷ symbolOf (x / 16) ∷ l) (encoded-append xs b)
 
 module _ (f : Frame) where
   message-symbols : f .kind < sopKinds
-      → symbolsOf f ≡ setOf (f .kind) ++ (spelt (f .octets) ++ (spelt (fourOctets (crcOf (f .octets))) ++ (eop ∷ [])))
+      → symbolsOf f ≡ setOf (f .kind) ++ (encoded (f .octets) ++ (encoded (fourOctets (crcOf (f .octets))) ++ (eop ∷ [])))
   unfolding symbolsOf drawn sealed withCrc
   message-symbols h =
-      ap (λ (b : Bool). setOf (f .kind) ++ cond b (spelt (cond b (withCrc (f .octets)) []) ++ (eop ∷ [])) []) (carrying (f .kind) h)
-      ∙ simp (spelt-append, append-assoc)
+      ap (λ (b : Bool). setOf (f .kind) ++ cond b (encoded (cond b (withCrc (f .octets)) []) ++ (eop ∷ [])) []) (carrying (f .kind) h)
+      ∙ simp (encoded-append, append-assoc)
 
   alone-symbols : sopKinds ≤ f .kind → symbolsOf f ≡ setOf (f .kind)
   unfolding symbolsOf drawn sealed
   alone-symbols h =
-      ap (λ (b : Bool). setOf (f .kind) ++ cond b (spelt (cond b (withCrc (f .octets)) []) ++ (eop ∷ [])) []) (bare (f .kind) h)
+      ap (λ (b : Bool). setOf (f .kind) ++ cond b (encoded (cond b (withCrc (f .octets)) []) ++ (eop ∷ [])) []) (bare (f .kind) h)
       ∙ append-nil (setOf (f .kind))
 
   length-message : f .kind < sopKinds → length (symbolsOf f) ≡ 13 + 2 * length (f .octets)
   unfolding fourOctets
   length-message h =
-      rw (message-symbols h) (simp (length-append, length-spelt) (let z = set-length (f .kind) (omega arith) in omega arith))
+      rw (message-symbols h) (simp (length-append, length-encoded) (let z = set-length (f .kind) (omega arith) in omega arith))
 
   length-alone : sopKinds ≤ f .kind → f .kind < kinds → length (symbolsOf f) ≡ 4
   length-alone h g = ap length (alone-symbols h) ∙ set-length (f .kind) g
@@ -67,9 +67,9 @@ frame-lengths f (alone h k e) = inl (length-alone f h k)
 -- the runs of stores that put a message
 pub message-put : (f : Frame) (before s₁ s₂ s₃ tail : List ℕ) (c at end : ℕ) → f .kind < sopKinds
     → s₁ ≡ sets before 0 (setOf (f .kind))
-    → (at ≡ 4 + 2 * length (f .octets)) × (s₂ ≡ sets s₁ 4 (spelt (f .octets)))
+    → (at ≡ 4 + 2 * length (f .octets)) × (s₂ ≡ sets s₁ 4 (encoded (f .octets)))
     → c ≡ crcOf (f .octets) → tail ≡ fourOctets c
-    → (end ≡ at + 2 * length tail) × (s₃ ≡ sets s₂ at (spelt tail))
+    → (end ≡ at + 2 * length tail) × (s₃ ≡ sets s₂ at (encoded tail))
     → Put f before (end + 1) (set s₃ end eop)
 unfolding fourOctets
 message-put f before s₁ s₂ s₃ tail c at end h e₁ e₂ ec et e₃ =
@@ -77,17 +77,17 @@ message-put f before s₁ s₂ s₃ tail c at end h e₁ e₂ ec et e₃ =
     let l = f .octets in
     let u : tail ≡ fourOctets (crcOf l) = et ∙ ap fourOctets ec in
     let t : length tail ≡ 4 = ap length u in
-    let last = spelt tail ++ (eop ∷ []) in
+    let last = encoded tail ++ (eop ∷ []) in
     record {
       long = let n = length-message f h in omega arith;
       puts =
           ap (λ (s : List ℕ). sets s end (eop ∷ [])) (e₃ .1)
-          ∙ sets-append s₂ at (spelt tail) (eop ∷ []) end (let m = length-spelt tail in omega arith)
+          ∙ sets-append s₂ at (encoded tail) (eop ∷ []) end (let m = length-encoded tail in omega arith)
           ∙ ap (λ (s : List ℕ). sets s at last) (e₂ .1)
-          ∙ sets-append s₁ 4 (spelt l) last at (let m = length-spelt l in omega arith)
-          ∙ ap (λ (s : List ℕ). sets s 4 (spelt l ++ last)) e₁
-          ∙ sets-append before 0 (setOf k) (spelt l ++ last) 4 (let m = set-length k (omega arith) in omega arith)
-          ∙ ap (λ (s : List ℕ). sets before 0 (setOf k ++ (spelt l ++ (spelt s ++ (eop ∷ []))))) u
+          ∙ sets-append s₁ 4 (encoded l) last at (let m = length-encoded l in omega arith)
+          ∙ ap (λ (s : List ℕ). sets s 4 (encoded l ++ last)) e₁
+          ∙ sets-append before 0 (setOf k) (encoded l ++ last) 4 (let m = set-length k (omega arith) in omega arith)
+          ∙ ap (λ (s : List ℕ). sets before 0 (setOf k ++ (encoded l ++ (encoded s ++ (eop ∷ []))))) u
           ∙ ap (sets before 0) (sym (message-symbols f h));
     }
 

@@ -1,5 +1,6 @@
 -- CRC-32, bit by bit: reflected polynomial EDB88320h, start FFFFFFFFh, final complement (01, 'Line code (PD)').
 -- Assumes nothing.
+use mathlib.Core.Path.{_≡_}
 use mathlib.Core.Bool.{Bool, _&&_}
 use mathlib.Core.List.{List, [], _∷_, _++_}
 use Prim.Native.Nat.{ℕ, zero, suc, _+_, _*_, _-_, _/_, _%_}
@@ -48,3 +49,13 @@ number l = getD l 0 0 + 256 * getD l 1 0 + 65536 * getD l 2 0 + 16777216 * getD 
 -- the last four octets are the CRC of the others
 unfoldable pub crcRight : List ℕ → Bool
 crcRight m = leb 4 (length m) && eqb (crcOf (take (length m - 4) m)) (number (drop (length m - 4) m))
+
+-- ---- what the functions promise
+
+-- r is the CRC of the octets l
+abbrev pub IsCrc : List ℕ → ℕ → Type 0
+IsCrc l r = r ≡ crcOf l
+
+-- r says whether the octets m end with the CRC of the others
+abbrev pub SaysCrcRight : List ℕ → Bool → Type 0
+SaysCrcRight m r = r ≡ crcRight m

@@ -16,8 +16,8 @@ use Rattle.line.specs.Read.{first}
 use Rattle.line.specs.Reader.{Said, no, noAt, said, saysOf, Reads}
 
 -- what the reader says of a record, given room
-abbrev pub heard : List ℕ → Said
-heard line = saysOf 0 (first line)
+abbrev pub readingOf : List ℕ → Said
+readingOf line = saysOf 0 (first line)
 
 -- SOP and n nibbles 0
 abbrev pub started : ℕ → List ℕ
@@ -28,14 +28,14 @@ abbrev pub tank : Frame
 tank = record { kind = 0; octets = 0x4F ∷ 0x10 ∷ 0x6C ∷ 0xC3 ∷ 0xA1 ∷ 0x21 ∷ [] }
 
 pub record Examples : Type 0 where
-  pub nothing : heard [] ≡ noAt 14 0
-  pub no-set : heard (0x18 ∷ 0x18 ∷ 0x11 ∷ []) ≡ noAt 13 2
-  pub eop-after-half : heard (started 13 ++ (eop ∷ [])) ≡ noAt 13 17
-  pub eop-too-soon : heard (started 10 ++ (eop ∷ [])) ≡ noAt 13 14
-  pub octet-35 : heard (started 69) ≡ noAt 13 72
-  pub cut-off : heard (started 68) ≡ noAt 14 72
-  pub no-symbol : heard (started 1 ++ (32 ∷ [])) ≡ noAt 13 5
-  pub wrong-crc : heard (started 12 ++ (eop ∷ [])) ≡ noAt 15 16
+  pub nothing : readingOf [] ≡ noAt 14 0
+  pub no-set : readingOf (0x18 ∷ 0x18 ∷ 0x11 ∷ []) ≡ noAt 13 2
+  pub eop-after-half : readingOf (started 13 ++ (eop ∷ [])) ≡ noAt 13 17
+  pub eop-too-soon : readingOf (started 10 ++ (eop ∷ [])) ≡ noAt 13 14
+  pub octet-35 : readingOf (started 69) ≡ noAt 13 72
+  pub cut-off : readingOf (started 68) ≡ noAt 14 72
+  pub no-symbol : readingOf (started 1 ++ (32 ∷ [])) ≡ noAt 13 5
+  pub wrong-crc : readingOf (started 12 ++ (eop ∷ [])) ≡ noAt 15 16
   pub room-72 : firstNo (writerRows tank 72) ≡ some 12
   pub room-33 : (line after : List ℕ) (at : ℕ) (r : Answer) → Reads line at (replicate 33 0) r after → said r ≡ no 12
   pub check-value : crcOf (0x31 ∷ 0x32 ∷ 0x33 ∷ 0x34 ∷ 0x35 ∷ 0x36 ∷ 0x37 ∷ 0x38 ∷ 0x39 ∷ []) ≡ 0xCBF4_3926

@@ -5,7 +5,7 @@ use mathlib.Core.Bool.{cond}
 use mathlib.Core.List.{List, [], _∷_, _++_}
 use Prim.Native.Nat.{ℕ, _<_, _≤_}
 use lib.ListN.{length}
-use Rattle.line.specs.Symbol.{eop, spelt}
+use Rattle.line.specs.Symbol.{eop, encoded}
 use Rattle.line.specs.Kind.{kinds, setOf, sopKinds, carries}
 use Rattle.line.specs.Crc.{withCrc}
 
@@ -35,7 +35,7 @@ pub data Shaped (s : Shape) : Type 0 where
 
 -- the ordered set, then of an SOP kind each octet and EOP
 unfoldable pub drawn : Shape → List ℕ
-drawn s = setOf (s .kind) ++ cond (carries (s .kind)) (spelt (s .octets) ++ (eop ∷ [])) []
+drawn s = setOf (s .kind) ++ cond (carries (s .kind)) (encoded (s .octets) ++ (eop ∷ [])) []
 
 -- a message is sent with its CRC
 unfoldable pub sealed : Frame → Shape

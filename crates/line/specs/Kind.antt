@@ -1,9 +1,10 @@
 -- The kinds of frames and their ordered sets: one table for writer, reader and transmit queue (01, 'Line code (PD)', table).
 -- Assumes nothing.
-use mathlib.Core.Bool.{Bool}
+use mathlib.Core.Bool.{Bool, cond}
 use mathlib.Core.List.{List, [], _∷_}
-use Prim.Native.Nat.{ℕ}
-use lib.Dec.{ltb}
+use mathlib.Core.Option.{Option, none, some}
+use Prim.Native.Nat.{ℕ, suc}
+use lib.Dec.{ltb, eqb}
 use lib.ListN.{length, getD}
 use Rattle.line.specs.Symbol.{sync-1, sync-2, sync-3, rst-1, rst-2}
 
@@ -30,3 +31,16 @@ sopKinds = 5
 
 unfoldable pub carries : ℕ → Bool
 carries k = ltb k sopKinds
+
+-- ---- which set a list begins with, exactly
+
+-- how many symbols a set and a list begin with in common
+unfoldable pub common : List ℕ → List ℕ → ℕ
+common [] l = 0
+common (x ∷ xs) [] = 0
+common (x ∷ xs) (y ∷ ys) = cond (eqb x y) (suc (common xs ys)) 0
+
+-- the first of these sets that the list begins with; k is the first one's kind
+unfoldable pub kindFrom : ℕ → List (List ℕ) → List ℕ → Option ℕ
+kindFrom k [] l = none
+kindFrom k (s ∷ ss) l = cond (eqb (common s l) 4) (some k) (kindFrom (suc k) ss l)

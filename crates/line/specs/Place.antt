@@ -27,7 +27,7 @@ pub record Longest (line : List ℕ) (place : ℕ) : Type 0 where
   pub most : (n : ℕ) → n ≤ length line → Begins (take n line) → n ≤ place
 
 -- a whole frame begins the record; s is its kind and its octets with CRC
-pub record Holds (line : List ℕ) (s : Shape) : Type 0 where
+pub record Intact (line : List ℕ) (s : Shape) : Type 0 where
   pub frame : Frame
   pub whole : Whole frame
   pub seals : s ≡ sealed frame

@@ -7,7 +7,7 @@ use Prim.Native.Nat.{ℕ, zero, suc, _+_, _*_, _%_, max}
 use lib.Dec.{leb, eqb}
 use lib.ListN.{length, take, drop, getD}
 use Rattle.line.specs.Symbol.{eop, isNibble, octetsOf}
-use Rattle.line.specs.Kind.{orderedSets, carries}
+use Rattle.line.specs.Kind.{orderedSets, common, kindFrom, carries}
 use Rattle.line.specs.Crc.{crcRight}
 use Rattle.line.specs.Frame.{Shape}
 
@@ -18,17 +18,6 @@ pub data Look (A : Type 0) : Type 0 where
   misfit : ℕ → Look A
 
 -- ---- which set begins the record
-
--- how many symbols a set and the record begin with in common
-unfoldable pub common : List ℕ → List ℕ → ℕ
-common [] l = 0
-common (x ∷ xs) [] = 0
-common (x ∷ xs) (y ∷ ys) = cond (eqb x y) (suc (common xs ys)) 0
-
--- the first of these sets that begins the record; k is the first one's kind
-unfoldable pub kindFrom : ℕ → List (List ℕ) → List ℕ → Option ℕ
-kindFrom k [] l = none
-kindFrom k (s ∷ ss) l = cond (eqb (common s l) 4) (some k) (kindFrom (suc k) ss l)
 
 -- the most that the record has in common with one of these sets
 unfoldable pub furthest : List (List ℕ) → List ℕ → ℕ

@@ -1,13 +1,15 @@
--- The line reader: what it answers and what it leaves in the lent octets (01, 'Line reader', 'Numbers of no').
+-- The line reader: what it answers, what it leaves in the lent octets, and the rest of the record (01, 'Line reader', 'Numbers of no').
 -- Assumes nothing.
 use mathlib.Core.Path.{_≡_}
 use mathlib.Core.Bool.{cond}
 use mathlib.Core.List.{List, _++_}
-use Prim.Native.Nat.{ℕ, _+_}
+use Prim.Native.Nat.{ℕ, _+_, min}
 use lib.Dec.{ltb}
 use lib.ListN.{length, drop}
+use denote.Ref.{RefT, now}
 use Rattle.line.specs.declared.read.Answer.{Answer}
 use Rattle.line.specs.declared.read.Answer.the-variants.{Frame, SmallBuffer, NoFrame, TooShort, WrongCrc}
+use Rattle.line.specs.declared.read.FirstRead.{FirstRead}
 use Rattle.line.specs.Frame.{drawn}
 use Rattle.line.specs.Read.{First, frame, wrongCrc, tooShort, noFrame, first}
 
@@ -50,3 +52,29 @@ pub record Tells (at : ℕ) (f : First) (before : List ℕ) (r : Answer) (after 
 pub record Reads (line : List ℕ) (at : ℕ) (before : List ℕ) (r : Answer) (after : List ℕ) : Type 0 where
   pub says : said r ≡ cond (ltb (length before) octetRoom) (no 12) (saysOf at (first (drop at line)))
   pub leaves : after ≡ cond (ltb (length before) octetRoom) before (filled (first (drop at line)) before)
+
+-- ---- the rest of the record
+
+-- the place after a read at `at`: behind a frame, and the same where there is none
+unfoldable pub behind : ℕ → Said → ℕ
+behind at (read k n p) = p
+behind at (no n) = at
+behind at (noAt n p) = at
+
+-- r is the lent slice from n on and no copy of it: the same memory, so many symbols further, at most at its end
+pub record IsTail (line : RefT (List ℕ)) (n : ℕ) (r : RefT (List ℕ)) : Type 0 where
+  pub block : r .ptr .0 ≡ line .ptr .0
+  pub offset : r .ptr .1 ≡ line .ptr .1 + min n (length (now line))
+  pub holds : now r ≡ drop n (now line)
+
+-- how many symbols the first frame has; none where there is no frame
+unfoldable pub span : First → ℕ
+span (frame s) = length (drawn s)
+span (wrongCrc p) = 0
+span (tooShort p) = 0
+span (noFrame p) = 0
+
+-- read_frame at the record's beginning, and the rest behind the first frame: the whole record where none is answered
+pub record ReadsFirst (line : RefT (List ℕ)) (before : List ℕ) (r : FirstRead) (after : List ℕ) : Type 0 where
+  pub reads : Reads (now line) 0 before (r .answer) after
+  pub leaves : IsTail line (cond (ltb (length before) octetRoom) 0 (span (first (now line)))) (r .rest)

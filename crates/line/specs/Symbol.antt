@@ -47,9 +47,9 @@ unfoldable pub isNibble : ℕ → Bool
 isNibble s = ltb (nibbleOf s) 16
 
 -- each octet low nibble first
-unfoldable pub spelt : List ℕ → List ℕ
-spelt [] = []
-spelt (b ∷ bs) = symbolOf (b % 16) ∷ symbolOf (b / 16) ∷ spelt bs
+unfoldable pub encoded : List ℕ → List ℕ
+encoded [] = []
+encoded (b ∷ bs) = symbolOf (b % 16) ∷ symbolOf (b / 16) ∷ encoded bs
 
 -- the octets of pairs of nibbles, low nibble first
 unfoldable pub octetsOf : List ℕ → List ℕ

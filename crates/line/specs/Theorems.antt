@@ -5,15 +5,19 @@ use mathlib.Core.Bool.{Bool}
 use mathlib.Core.List.{List, [], _++_}
 use mathlib.Core.Logic.{_↔_, _⊎_}
 use Prim.Native.Nat.{ℕ, _≤_}
-use lib.ListN.{length, drop}
+use lib.ListN.{length, take, drop}
+use denote.Ref.{RefT, now}
 use Rattle.line.specs.declared.write.Written.{Written}
 use Rattle.line.specs.declared.read.Answer.{Answer}
-use Rattle.line.specs.Crc.{crcOf, crcRight}
-use Rattle.line.specs.Frame.{Frame, Whole, AllWhole, Shape, sealed, symbolsOf, joined}
+use Rattle.line.specs.declared.read.Answer.the-variants.{Frame as FrameRead}
+use Rattle.line.specs.declared.read.Cursor.{Cursor}
+use Rattle.line.specs.declared.read.FirstRead.{FirstRead}
+use Rattle.line.specs.Crc.{IsCrc, SaysCrcRight}
+use Rattle.line.specs.Frame.{Frame, Whole, AllWhole, Shape, drawn, sealed, symbolsOf, joined}
 use Rattle.line.specs.Write.{frameRoom, written, Writes}
 use Rattle.line.specs.Read.{frame, wrongCrc, tooShort, noFrame, first}
-use Rattle.line.specs.Reader.{said, Reads}
-use Rattle.line.specs.Place.{Cut, Longest, Holds, Spoilt}
+use Rattle.line.specs.Reader.{octetRoom, said, Tells, Reads, IsTail, ReadsFirst}
+use Rattle.line.specs.Place.{Cut, Longest, Intact, Spoilt}
 
 -- ---- A message's frame has 17 to 73 symbols, a set alone 4
 
@@ -21,18 +25,29 @@ abbrev pub FrameLengths : Type 0
 FrameLengths =
     (f : Frame) → Whole f → (length (symbolsOf f) ≡ 4) ⊎ ((17 ≤ length (symbolsOf f)) × (length (symbolsOf f) ≤ frameRoom))
 
--- ---- 1. What was written is read back, whatever follows it, and what follows it is the rest
+-- ---- 1. What was written is read back, whatever follows it, and the rest is what follows it
 
 abbrev pub ReadsBack : Type 0
 ReadsBack = (f : Frame) (x : List ℕ) → Whole f → first (symbolsOf f ++ x) ≡ frame (sealed f)
 
+-- the symbols of the frame that the reader answered, and then the rest, are the record from the cursor on
 abbrev pub LeavesRest : Type 0
-LeavesRest = (f : Frame) (x : List ℕ) → drop (length (symbolsOf f)) (symbolsOf f ++ x) ≡ x
+LeavesRest =
+    (line rest : RefT (List ℕ)) (at kind count : ℕ) (next : Cursor) (before after : List ℕ)
+    → Reads (now line) at before (FrameRead kind count next) after → IsTail line (next .at) rest
+    → drawn (record { kind = kind; octets = take count after }) ++ now rest ≡ drop at (now line)
+
+-- in one call, given room: the frame with its octets and CRC, and what follows it
+abbrev pub FirstReadBack : Type 0
+FirstReadBack =
+    (f : Frame) (x : List ℕ) (line : RefT (List ℕ)) (before : List ℕ) (r : FirstRead) (after : List ℕ)
+    → Whole f → now line ≡ symbolsOf f ++ x → octetRoom ≤ length before → ReadsFirst line before r after
+    → Tells 0 (frame (sealed f)) before (r .answer) after × (now (r .rest) ≡ x)
 
 -- ---- 2. The reader's answer on every record, exactly when
 
 abbrev pub FrameExactly : Type 0
-FrameExactly = (line : List ℕ) (s : Shape) → (first line ≡ frame s) ↔ Holds line s
+FrameExactly = (line : List ℕ) (s : Shape) → (first line ≡ frame s) ↔ Intact line s
 
 abbrev pub WrongCrcExactly : Type 0
 WrongCrcExactly = (line : List ℕ) (p : ℕ) → (first line ≡ wrongCrc p) ↔ Spoilt line p
@@ -44,7 +59,7 @@ abbrev pub NoFrameExactly : Type 0
 NoFrameExactly =
     (line : List ℕ) (p : ℕ)
     → (first line ≡ noFrame p)
-    ↔ (((s : Shape) → Holds line s → ⊥) × ((q : ℕ) → Spoilt line q → ⊥) × (Cut line → ⊥) × Longest line p)
+    ↔ (((s : Shape) → Intact line s → ⊥) × ((q : ℕ) → Spoilt line q → ⊥) × (Cut line → ⊥) × Longest line p)
 
 -- ---- 3. No frame is a proper beginning of another
 
@@ -65,13 +80,18 @@ abbrev pub OneMeaningSaid : Type 0
 OneMeaningSaid = (r s : Answer) → said r ≡ said s → r ≡ s
 
 abbrev pub OneCrc : Type 0
-OneCrc = (l : List ℕ) (r s : ℕ) → r ≡ crcOf l → s ≡ crcOf l → r ≡ s
+OneCrc = (l : List ℕ) (r s : ℕ) → IsCrc l r → IsCrc l s → r ≡ s
 
 abbrev pub OneRight : Type 0
-OneRight = (l : List ℕ) (r s : Bool) → r ≡ crcRight l → s ≡ crcRight l → r ≡ s
+OneRight = (l : List ℕ) (r s : Bool) → SaysCrcRight l r → SaysCrcRight l s → r ≡ s
+
+-- the same symbols at the same place in memory: all of a slice but the name that proofs know it by
+pub record SameSlice (r s : RefT (List ℕ)) : Type 0 where
+  pub place : r .ptr ≡ s .ptr
+  pub symbols : now r ≡ now s
 
 abbrev pub OneRest : Type 0
-OneRest = (line : List ℕ) (at : ℕ) (r s : List ℕ) → r ≡ drop at line → s ≡ drop at line → r ≡ s
+OneRest = (line : RefT (List ℕ)) (at : ℕ) (r s : RefT (List ℕ)) → IsTail line at r → IsTail line at s → SameSlice r s
 
 abbrev pub OneWriting : Type 0
 OneWriting =
@@ -82,3 +102,8 @@ abbrev pub OneReading : Type 0
 OneReading =
     (line : List ℕ) (at : ℕ) (before : List ℕ) (r s : Answer) (a b : List ℕ)
     → Reads line at before r a → Reads line at before s b → (r ≡ s) × (a ≡ b)
+
+abbrev pub OneFirstReading : Type 0
+OneFirstReading =
+    (line : RefT (List ℕ)) (before : List ℕ) (r s : FirstRead) (a b : List ℕ)
+    → ReadsFirst line before r a → ReadsFirst line before s b → (r .answer ≡ s .answer) × SameSlice (r .rest) (s .rest) × (a ≡ b)

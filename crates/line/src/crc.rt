@@ -1,7 +1,7 @@
 // CRC-32, bit by bit (01, 'Line code (PD)').
 ghost use mathlib.Core.Path.{_≡_};
 ghost use Prim.Native.Nat.{_+_, _*_};
-ghost use Rattle.line.specs.Crc.{crcBit, crcOctet, crcOf, fourOctets, crcRight};
+ghost use Rattle.line.specs.Crc.{crcBit, crcOctet, fourOctets, IsCrc, SaysCrcRight};
 
 const POLYNOMIAL: u32 = 0xEDB8_8320;
 
@@ -28,7 +28,7 @@ fn octet(c: u32, b: u8) -> u32
 // The CRC of some octets. Exported, so that C and Rust programs can call it too.
 #[no_mangle]
 pub extern "C" fn crc(octets: &[u8]) -> u32
-    ensures { λ r. ⌜ r ≡ crcOf (now (octets .entry)) ⌝ }
+    ensures { λ r. ⌜ IsCrc (now (octets .entry)) r ⌝ }
 {
     let mut c = 0xFFFF_FFFF;
     let mut i = 0;
@@ -60,7 +60,7 @@ fn joined(a: u8, b: u8, c: u8, d: u8) -> u32
 
 // Whether the last four octets are the CRC of the others; fewer than four have none.
 pub fn right(octets: &[u8]) -> bool
-    ensures { λ r. ⌜ r ≡ crcRight (now (octets .entry)) ⌝ }
+    ensures { λ r. ⌜ SaysCrcRight (now (octets .entry)) r ⌝ }
 {
     if octets.len() < 4 {
         return false;

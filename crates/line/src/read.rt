@@ -1,4 +1,4 @@
-// The line reader: a record and a cursor by value (01, 'Line reader').
+// The line reader: a record and a cursor by value, and the first frame with the tail behind it in one call (01, 'Line reader').
 use crate::crc::right;
 use crate::sets::SOP_KINDS;
 use crate::sets::Start;
@@ -7,12 +7,12 @@ use crate::symbols::EOP;
 use crate::symbols::nibble;
 ghost use mathlib.Core.Path.{_≡_};
 ghost use Prim.Native.Nat.{_+_, _*_, _≤_, _<_, _^_};
-ghost use lib.ListN.{length, take, drop};
+ghost use lib.ListN.{length, take};
 ghost use lib.Seq.{sets};
 ghost use Rattle.line.specs.Symbol.{octetsOf};
 ghost use Rattle.line.specs.Kind.{sopKinds};
 ghost use Rattle.line.specs.Read.{nibbleRun, mayEnd, bodyAt, withSet, checked, firstOf};
-ghost use Rattle.line.specs.Reader.{octetRoom, Tells, Reads};
+ghost use Rattle.line.specs.Reader.{octetRoom, said, Tells, Reads, behind, IsTail, ReadsFirst};
 
 // A place in a record.
 pub struct Cursor {
@@ -37,7 +37,7 @@ const OCTET_ROOM: usize = 34;
 
 // The symbols of a record from a cursor on: a part of the caller's own, none where the cursor is past the end.
 pub fn rest<'a>(line: &'a [u8], cursor: Cursor) -> &'a [u8]
-    ensures { λ r. ⌜ now r ≡ drop (cursor .at) (now (line .entry)) ⌝ }
+    ensures { λ r. ⌜ IsTail (line .entry) (cursor .at) r ⌝ }
 {
     let at = cursor.at;
     if at <= line.len() {
@@ -101,7 +101,7 @@ fn copy(from: &[u8], n: usize, to: &mut [u8])
 
 // A message whose shape is whole, by its CRC. The octets wait in an array of their own, so that a wrong CRC leaves the lent ones.
 fn read_octets(kind: u8, body: &[u8], count: usize, at: usize, octets: &mut [u8]) -> Answer
-    requires { ⌜ (kind < sopKinds) × (2 * count ≤ nibbleRun 68 (now body)) × (6 ≤ count) × (octetRoom ≤ length (now octets)) × (at + (5 + 2 * count) < 2 ^ 64) ⌝ }
+    requires { ⌜ (kind < sopKinds) × (2 * count ≤ nibbleRun 68 (now body)) × (6 ≤ count) × (count ≤ octetRoom) × (octetRoom ≤ length (now octets)) × (at + (5 + 2 * count) < 2 ^ 64) ⌝ }
     ensures { λ r. ⌜ Tells at (checked (record { kind = kind; octets = octetsOf (take (2 * count) (now (body .entry))) })) (now (octets .entry)) r (now (octets .exit)) ⌝ }
 {
     let mut held = [0u8; OCTET_ROOM];
@@ -156,5 +156,39 @@ pub fn read_frame(line: &[u8], cursor: Cursor, octets: &mut [u8]) -> Answer
             }
             read_message(kind, &part[4..], at, octets)
         }
+    }
+}
+
+// What `read_first` answers: the first frame's answer, and the rest of the record.
+pub struct FirstRead<'a> {
+    pub answer: Answer,
+    pub rest: &'a [u8],
+}
+
+// The record behind an answer's frame, and all of it where there is none.
+fn tail<'a>(line: &'a [u8], answer: Answer) -> &'a [u8]
+    ensures { λ r. ⌜ IsTail (line .entry) (behind 0 (said answer)) r ⌝ }
+{
+    match answer {
+        Answer::Frame {
+            kind: _,
+            count: _,
+            next,
+        } => rest(line, next),
+        Answer::SmallBuffer => line,
+        Answer::NoFrame(_) => line,
+        Answer::TooShort(_) => line,
+        Answer::WrongCrc(_) => line,
+    }
+}
+
+// The first frame of a record, and the tail of the lent slice behind it.
+pub fn read_first<'a>(line: &'a [u8], octets: &mut [u8]) -> FirstRead<'a>
+    ensures { λ r. ⌜ ReadsFirst (line .entry) (now (octets .entry)) r (now (octets .exit)) ⌝ }
+{
+    let answer = read_frame(line, Cursor { at: 0 }, octets);
+    FirstRead {
+        answer,
+        rest: tail(line, answer),
     }
 }

@@ -3,8 +3,8 @@ ghost use mathlib.Core.Path.{_≡_};
 ghost use Prim.Native.Nat.{_<_, _≤_, max};
 ghost use lib.ListN.{length};
 ghost use lib.Seq.{sets};
-ghost use Rattle.line.specs.Kind.{kinds, setOf};
-ghost use Rattle.line.specs.Read.{common, setAt};
+ghost use Rattle.line.specs.Kind.{kinds, setOf, common};
+ghost use Rattle.line.specs.Read.{setAt};
 ghost use Rattle.line.specs.Start.{startOf};
 
 const SOP: [u8; 4] = *b"\x18\x18\x18\x11";

@@ -10,7 +10,7 @@ ghost use mathlib.Core.Path.{_≡_};
 ghost use Prim.Native.Nat.{_+_, _*_, _≤_, _<_};
 ghost use lib.ListN.{length};
 ghost use lib.Seq.{sets};
-ghost use Rattle.line.specs.Symbol.{spelt};
+ghost use Rattle.line.specs.Symbol.{encoded};
 ghost use Rattle.line.specs.Kind.{sopKinds};
 ghost use Rattle.line.specs.Write.{frameRoom, Put, Writes};
 
@@ -27,7 +27,7 @@ const FRAME_ROOM: usize = 73;
 // Each octet as two symbols, low nibble first, from `at` on; the place after them.
 fn put_octets(octets: &[u8], symbols: &mut [u8], at: usize) -> usize
     requires { ⌜ at + 2 * length (now octets) ≤ length (now symbols) ⌝ }
-    ensures { λ r. ⌜ (r ≡ at + 2 * length (now (octets .entry))) × (now (symbols .exit) ≡ sets (now (symbols .entry)) at (spelt (now (octets .entry)))) ⌝ }
+    ensures { λ r. ⌜ (r ≡ at + 2 * length (now (octets .entry))) × (now (symbols .exit) ≡ sets (now (symbols .entry)) at (encoded (now (octets .entry)))) ⌝ }
 {
     let mut o = at;
     let mut i = 0;

@@ -12,7 +12,7 @@ use Rattle.line.specs.declared.read.Cursor.{Cursor}
 use Rattle.line.specs.Frame.{Shape}
 use Rattle.line.specs.Read.{First, frame, wrongCrc, tooShort, noFrame, first}
 use Rattle.line.specs.Reader.{octetRoom, said, saysOf, filled, Reads}
-use Rattle.reader.proofs.Calling.{with-room}
+use Rattle.line.proofs.Tails.{with-room}
 
 module _ (w before after : List ℕ) (a : Answer) (room : octetRoom ≤ length before) (r : Reads w 0 before a after) where
   -- whatever the answer says is what the symbols are

@@ -8,7 +8,8 @@ use native.Mathlib.Omega.{arith}
 use lib.ListN.{length, length-append}
 use lib.Seq.{append-snoc}
 use Rattle.line.specs.Frame.{Shape, drawn, sealed}
-use Rattle.line.specs.Read.{common, kindFrom, furthest, setOr, setAt, afterSet, shapeAt, First, frame, wrongCrc, tooShort, noFrame, firstOf, first}
+use Rattle.line.specs.Kind.{common, kindFrom}
+use Rattle.line.specs.Read.{furthest, setOr, setAt, afterSet, shapeAt, First, frame, wrongCrc, tooShort, noFrame, firstOf, first}
 use Rattle.reader.specs.Walk.{Walked, ends, before, walk, drawnAll}
 use Rattle.reader.proofs.Walking.{walks-frames}
 use Rattle.listing.specs.declared.form.Scan.{Scan}

@@ -1,11 +1,11 @@
 -- The cases, computed.
 -- Assumes nothing.
 use mathlib.Core.Path.{refl}
-use Rattle.line.specs.Symbol.{symbolOf, placeOf, nibbleOf, isNibble, spelt, octetsOf}
-use Rattle.line.specs.Kind.{setOf, carries}
+use Rattle.line.specs.Symbol.{symbolOf, placeOf, nibbleOf, isNibble, encoded, octetsOf}
+use Rattle.line.specs.Kind.{setOf, carries, common, kindFrom}
 use Rattle.line.specs.Crc.{poly, crcBit, crcBits, crcOctet, crcFrom, crcOf, fourOctets, number, crcRight}
 use Rattle.line.specs.Frame.{drawn}
-use Rattle.line.specs.Read.{common, kindFrom, furthest, setOr, setAt, nibbleRun, mayEnd, endOr, bodyAt, withSet, afterSet, shapeAt, checked, firstOf, first}
+use Rattle.line.specs.Read.{furthest, setOr, setAt, nibbleRun, mayEnd, endOr, bodyAt, withSet, afterSet, shapeAt, checked, firstOf, first}
 use Rattle.reader.specs.Walk.{ends, before, onward, walkFor, walk, drawnAll}
 use Rattle.text.specs.Hex as hex
 use Rattle.text.specs.Put.{decimalOf, spaced, octetsText}
@@ -15,7 +15,7 @@ use Rattle.listing.specs.Listed.{framesText, shortText, lastText, walkTe
 use Rattle.listing.specs.Cases.{Cases}
 
 pub cases : Cases
-unfolding symbolOf placeOf nibbleOf isNibble spelt octetsOf setOf carries poly crcBit crcBits crcOctet crcFrom crcOf fourOctets number crcRight drawn common kindFrom furthest setOr setAt nibbleRun mayEnd endOr bodyAt withSet afterSet shapeAt checked firstOf first ends before onward walkFor walk drawnAll hex.isHex hex.nibbleOf hex.octetOf hex.digitOf hex.hexOf decimalOf spaced octetsText ended broken symbolThen gapThen symbolsIn recorded placeText frameText noText badText framesText shortText lastText walkText listed
+unfolding symbolOf placeOf nibbleOf isNibble encoded octetsOf setOf carries poly crcBit crcBits crcOctet crcFrom crcOf fourOctets number crcRight drawn common kindFrom furthest setOr setAt nibbleRun mayEnd endOr bodyAt withSet afterSet shapeAt checked firstOf first ends before onward walkFor walk drawnAll hex.isHex hex.nibbleOf hex.octetOf hex.digitOf hex.hexOf decimalOf spaced octetsText ended broken symbolThen gapThen symbolsIn recorded placeText frameText noText badText framesText shortText lastText walkText listed
 cases =
     record {
       empty = refl;

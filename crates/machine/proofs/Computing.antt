@@ -1,11 +1,11 @@
 -- Where `computed` is unfolded, closed histories compute: it opens every definition on their way.
 -- Assumes nothing.
-use Rattle.line.specs.Symbol.{symbolOf, placeOf, nibbleOf, isNibble, spelt as line-spelt, octetsOf}
-use Rattle.line.specs.Kind.{setOf, carries}
+use Rattle.line.specs.Symbol.{symbolOf, placeOf, nibbleOf, isNibble, encoded, octetsOf}
+use Rattle.line.specs.Kind.{setOf, carries, common, kindFrom}
 use Rattle.line.specs.Crc.{poly, crcBit, crcBits, crcOctet, crcFrom, crcOf, fourOctets, withCrc, number, crcRight}
 use Rattle.line.specs.Frame.{drawn, sealed, symbolsOf, joined}
 use Rattle.line.specs.Refusal.{firstNo}
-use Rattle.line.specs.Read.{common, kindFrom, furthest, setOr, setAt, nibbleRun, mayEnd, endOr, bodyAt, withSet, afterSet, shapeAt, checked, firstOf, first}
+use Rattle.line.specs.Read.{furthest, setOr, setAt, nibbleRun, mayEnd, endOr, bodyAt, withSet, afterSet, shapeAt, checked, firstOf, first}
 use Rattle.line.specs.Reader.{saysOf}
 use Rattle.machine.specs.Registers.{cell, stored, isStored, readOnly, exists, has}
 use Rattle.machine.specs.Status.{status1aOf, status0Of, status1Of, clearedAt}
@@ -17,7 +17,7 @@ use Rattle.machine.specs.Refusals.{txStart, portStart, starts, sendsRese
 use Rattle.machine.specs.Step.{restored, pdReset, queues, control0Written, control1Written, control3Written, resetWritten, portWritten, commands, writes, readValue, afterRead, accepted, replyTo, resultOf, step, after, replies, frames}
 
 unfoldable pub computed : Unit {0}
-unfolding symbolOf placeOf nibbleOf isNibble line-spelt octetsOf setOf carries poly crcBit crcBits crcOctet crcFrom crcOf
+unfolding symbolOf placeOf nibbleOf isNibble encoded octetsOf setOf carries poly crcBit crcBits crcOctet crcFrom crcOf
     fourOctets withCrc drawn sealed symbolsOf joined firstNo common kindFrom furthest setOr setAt nibbleRun mayEnd endOr bodyAt
     withSet afterSet shapeAt number crcRight checked firstOf first saysOf cell stored isStored readOnly exists has status1aOf
     status0Of status1Of clearedAt setSymbol announced isToken toCome inside speltBy spelt header twoOctets isControl driverOn

@@ -14,7 +14,7 @@ use lib.Seq.{getD-set-other, take-append-le, take-append-add, take-all}
 use Rattle.line.specs.Frame.{Frame}
 use Rattle.line.specs.Refusal.{firstNo}
 use Rattle.line.specs.Write.{frameRoom}
-use Rattle.line.specs.Read.{kindFrom, common}
+use Rattle.line.specs.Kind.{common, kindFrom}
 use Rattle.machine.specs.Registers.{control0, cell, stored, has, fifos, TX-FLUSH, TX-START}
 use Rattle.machine.specs.State.{Phase, message, softReset, Request, State, withCells, withRequest, hides, shows, raisesA}
 use Rattle.machine.specs.Status.{RETRYFAIL, SOFTFAIL, I-RETRYFAIL, I-SOFTFAIL, I-HARDSENT}

@@ -10,9 +10,9 @@ use borrow.Author.Tests.{ltb-true, leb-true, eqb-true, lt-ltb, le-leb}
 use lib.Dec.{eqb, leb}
 use lib.ListN.{length, take, drop, getD, length-map, length-drop, length-append, take-append-drop}
 use lib.Seq.{length-take-le, drop-cons, drop-drop, take-at, drop-at, getD-at, drop-append-seam}
-use Rattle.line.specs.Kind.{orderedSets, kinds, sopKinds, setOf, carries}
+use Rattle.line.specs.Kind.{orderedSets, kinds, sopKinds, setOf, carries, common, kindFrom}
 use Rattle.line.specs.Frame.{Frame, Octets, Whole}
-use Rattle.line.specs.Read.{found, short, misfit, common, kindFrom, setOr, setAt}
+use Rattle.line.specs.Read.{found, short, misfit, setOr, setAt}
 use Rattle.line.proofs.Looks.{empty, Stands, Says}
 use Rattle.line.proofs.Starts.{set-length, set-back, IsKind, set-says}
 use Rattle.machine.specs.Queue.{setSymbol, announced, sameList, closing, speltBy, spelt}

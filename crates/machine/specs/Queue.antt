@@ -7,9 +7,8 @@ use Prim.Native.Nat.{ℕ, zero, suc, _+_, _-_}
 use lib.Dec.{ltb, leb, eqb}
 use lib.ListN.{take, drop, getD}
 use Rattle.line.specs.Symbol.{sync-1, sync-2, sync-3, rst-1, rst-2}
-use Rattle.line.specs.Kind.{orderedSets, carries}
+use Rattle.line.specs.Kind.{orderedSets, carries, kindFrom}
 use Rattle.line.specs.Frame.{Frame}
-use Rattle.line.specs.Read.{kindFrom}
 use Rattle.machine.specs.Registers.{between}
 
 -- ---- tokens

@@ -4,28 +4,28 @@ use mathlib.Core.Path.{_≡_, refl, sym, ap, _∙_, subst}
 use mathlib.Core.Bool.{Bool, cond}
 use mathlib.Core.List.{List, [], _∷_}
 use Prim.Native.Nat.{ℕ, _+_, _≤_}
-use borrow.Author.Tests.{le-ltb}
 use lib.ListN.{length, drop}
 use lib.Seq.{drop-drop}
 use denote.Ref.{RefT, now}
 use Rattle.line.specs.declared.read.Answer.{Answer}
 use Rattle.line.specs.Frame.{drawn, joined}
 use Rattle.line.specs.Read.{First, frame, wrongCrc, tooShort, noFrame, first}
-use Rattle.line.specs.Reader.{octetRoom, no, said, saysOf, filled, Tells, Reads}
+use Rattle.line.specs.Reader.{octetRoom, no, said, behind, saysOf, filled, Tells, Reads}
 use Rattle.reader.specs.declared.Reader.{Reader}
-use Rattle.reader.specs.Step.{behind, unread}
+use Rattle.reader.specs.Step.{unread}
 use Rattle.reader.specs.Walk.{Walked, ends, before, onward, walk}
-use Rattle.reader.specs.Calls.{Given, ByCursor, ByReader, stays, goes, AllRoom, AllTold}
+use Rattle.reader.specs.Calls.{Returned, ByCursor, ByReader, stays, goes, AllRoom, AllTold}
 use Rattle.reader.specs.Theorems.{SameWalk, ReaderWalks, ReadsAllBack}
+use Rattle.line.proofs.Tails.{with-room}
 use Rattle.reader.proofs.Walking.{walk-goes-on, walks-frames}
 
 -- ---- 3. By a reader and by a cursor
 
 -- the same record, and the cursor's calls from the reader's place
-abbrev Same : Reader → List (List ℕ) → List Given → Reader → Type 0
+abbrev Same : Reader → List (List ℕ) → List Returned → Reader → Type 0
 Same h bs gs e = (e .line ≡ h .line) × ByCursor (now (h .line)) (h .at .at) bs gs (e .at .at)
 
-to-cursor : {h e : Reader} {bs : List (List ℕ)} {gs : List Given} → ByReader h bs gs e → Same h bs gs e
+to-cursor : {h e : Reader} {bs : List (List ℕ)} {gs : List Returned} → ByReader h bs gs e → Same h bs gs e
 to-cursor stays = (refl, refl)
 to-cursor (goes {h} {m} {e} {b} {bs} {g} {gs} n r) =
     let next = to-cursor r in
@@ -38,7 +38,7 @@ to-cursor (goes {h} {m} {e} {b} {bs} {g} {gs} n r) =
       ),
     )
 
-to-reader : (h e : Reader) (bs : List (List ℕ)) (gs : List Given) → Same h bs gs e → ByReader h bs gs e
+to-reader : (h e : Reader) (bs : List (List ℕ)) (gs : List Returned) → Same h bs gs e → ByReader h bs gs e
 to-reader h e [] [] s =
     let is : h ≡ e = λ i. record { line = sym (s .0) i; at = record { at = sym (s .1) i } } in
     subst (ByReader h [] []) is stays
@@ -53,21 +53,11 @@ same-walk h e bs gs = (to-cursor, to-reader h e bs gs)
 
 -- ---- 4. With room
 
-pub with-room : (line : List ℕ) (at : ℕ) (b : List ℕ) (r : Answer) (a : List ℕ) → octetRoom ≤ length b → Reads line at b r a
-    → Tells at (first (drop at line)) b r a
-with-room line at b r a h p =
-    let t = le-ltb (length b) octetRoom h in
-    let f = first (drop at line) in
-    record {
-      says = p .says ∙ ap (λ (x : Bool). cond x (no 12) (saysOf at f)) t;
-      leaves = p .leaves ∙ ap (λ (x : Bool). cond x b (filled f b)) t;
-    }
-
-abbrev Told : ℕ → Walked → List (List ℕ) → List Given → ℕ → Type 0
+abbrev Told : ℕ → Walked → List (List ℕ) → List Returned → ℕ → Type 0
 Told at w bs gs end = AllTold at (w .frames) (w .ended) bs gs end
 
 -- where there is no frame the reader stays, and the walk from there is at its end
-ended : (line : List ℕ) (at : ℕ) (bs : List (List ℕ)) (gs : List Given) (end : ℕ) (f : First) (to : ℕ)
+ended : (line : List ℕ) (at : ℕ) (bs : List (List ℕ)) (gs : List Returned) (end : ℕ) (f : First) (to : ℕ)
     → first (drop at line) ≡ f → onward (drop at line) f walk ≡ ends (drop at line) f → to ≡ at
     → Told to (walk (drop to line)) bs gs end → Told at (ends (drop at line) f) bs gs end
 ended line at bs gs end f to e stop same more =
@@ -76,7 +66,7 @@ ended line at bs gs end f to e stop same more =
     (subst (λ (p : ℕ). Told p (walk (drop p line)) bs gs end) same more)
 
 -- one call tells of what stands first, and the others of the walk from where it leads
-one-call : (line : List ℕ) (at : ℕ) (b : List ℕ) (bs : List (List ℕ)) (g : Given) (gs : List Given) (end : ℕ) (f : First)
+one-call : (line : List ℕ) (at : ℕ) (b : List ℕ) (bs : List (List ℕ)) (g : Returned) (gs : List Returned) (end : ℕ) (f : First)
     → first (drop at line) ≡ f → Tells at f b (g .answer) (g .octets)
     → Told (behind at (said (g .answer))) (walk (drop (behind at (said (g .answer))) line)) bs gs end
     → Told at (onward (drop at line) f walk) (b ∷ bs) (g ∷ gs) end
@@ -92,7 +82,7 @@ one-call line at b bs g gs end (wrongCrc p) e t more = (t, ended line at bs gs e
 one-call line at b bs g gs end (tooShort p) e t more = (t, ended line at bs gs end (tooShort p) _ e refl (ap (behind at) (t .says)) more)
 one-call line at b bs g gs end (noFrame p) e t more = (t, ended line at bs gs end (noFrame p) _ e refl (ap (behind at) (t .says)) more)
 
-told : (line : List ℕ) (at : ℕ) (bs : List (List ℕ)) (gs : List Given) (end : ℕ) → AllRoom bs → ByCursor line at bs gs end
+told : (line : List ℕ) (at : ℕ) (bs : List (List ℕ)) (gs : List Returned) (end : ℕ) → AllRoom bs → ByCursor line at bs gs end
     → Told at (walk (drop at line)) bs gs end
 told line at [] [] end room c = c
 told line at [] (g ∷ gs) end room c = absurd c

@@ -4,10 +4,10 @@ use mathlib.Core.Path.{_≡_, sym, ap, _∙_}
 use mathlib.Core.List.{List}
 use Prim.Native.Nat.{ℕ}
 use Rattle.line.specs.declared.read.Answer.{Answer}
-use Rattle.line.specs.Reader.{said}
-use Rattle.line.proofs.Outcomes.{one-reading}
-use Rattle.reader.specs.Step.{behind, Steps}
-use Rattle.reader.specs.Theorems.{OneNew, OneNext, OnePlace, OneRest, OneMove}
+use Rattle.line.specs.Reader.{said, behind}
+use Rattle.line.proofs.Outcomes.{one-reading, one-rest}
+use Rattle.reader.specs.Step.{Steps}
+use Rattle.reader.specs.Theorems.{OneNew, OneNext, OnePlace, OneUnread, OneMove}
 
 -- ---- 5. One outcome
 
@@ -28,8 +28,8 @@ one-next h before r s a b e f x y =
 pub one-place : OnePlace
 one-place h r s x y = x ∙ sym y
 
-pub one-rest : OneRest
-one-rest h r s x y = x ∙ sym y
+pub one-unread : OneUnread
+one-unread h r s x y = one-rest _ _ r s x y
 
 pub one-move : OneMove
 one-move line at before r s a b x y =

@@ -6,8 +6,8 @@ use Prim.Native.Nat.{ℕ}
 use Rattle.line.specs.declared.read.Answer.{Answer}
 use Rattle.line.specs.declared.read.Answer.the-variants.{Frame, SmallBuffer, NoFrame, TooShort, WrongCrc}
 use Rattle.line.specs.declared.read.Cursor.{Cursor}
-use Rattle.line.specs.Reader.{said, Reads}
-use Rattle.reader.specs.Step.{behind, Steps}
+use Rattle.line.specs.Reader.{said, behind, Reads}
+use Rattle.reader.specs.Step.{Steps}
 
 module _ (line : List ℕ) (at : ℕ) (before after : List ℕ) (a : Answer) (r : Reads line at before a after) where
   pub step-on : (k n : ℕ) (c : Cursor) → a ≡ Frame k n c → Steps line at before (Frame k n c) after (c .at)

@@ -8,9 +8,11 @@ use native.Mathlib.Omega.{arith}
 use lib.ListN.{length, drop, length-append}
 use lib.Seq.{drop-append-seam}
 use Rattle.line.specs.Frame.{Shape, drawn, sealed, symbolsOf, joined}
-use Rattle.line.specs.Read.{common, kindFrom, furthest, setOr, setAt, afterSet, shapeAt, First, frame, wrongCrc, tooShort, noFrame, firstOf, first}
+use Rattle.line.specs.Kind.{common, kindFrom}
+use Rattle.line.specs.Read.{furthest, setOr, setAt, afterSet, shapeAt, First, frame, wrongCrc, tooShort, noFrame, firstOf, first}
 use Rattle.line.proofs.Shapes.{drawn-some}
-use Rattle.line.proofs.Exactly.{sealed-shaped, reads-back, leaves-rest, frame-exactly}
+use Rattle.line.proofs.Exactly.{sealed-shaped, reads-back, frame-exactly}
+use Rattle.line.proofs.Tails.{frame-lies}
 use Rattle.reader.specs.Walk.{Walked, ends, before, onward, walkFor, walk, drawnAll}
 use Rattle.reader.specs.Theorems.{NoMore, WalkGoesOn, WalkEnds, WalkKeeps, WalksFrames}
 
@@ -28,11 +30,9 @@ lies : (line : List ℕ) (s : Shape) → first line ≡ frame s → Lies line s
 unfolding symbolsOf
 lies line s e =
     let h = frame-exactly line s .0 e in
-    let is : line ≡ drawn s ++ h .rest = h .is ∙ ap (λ (t : Shape). drawn t ++ h .rest) (sym (h .seals)) in
-    let behind : left line s ≡ h .rest = ap (drop (length (drawn s))) is ∙ drop-append-seam (drawn s) (h .rest) in
     record {
       some = subst (λ (t : Shape). 4 ≤ length (drawn t)) (sym (h .seals)) (drawn-some (sealed-shaped (h .frame) (h .whole)));
-      is = ap (λ (x : List ℕ). drawn s ++ x) behind ∙ sym is;
+      is = frame-lies line s e;
     }
 
 shorter : (line : List ℕ) (s : Shape) → first line ≡ frame s → length (left line s) < length line
@@ -123,5 +123,5 @@ walks-frames [] w = ap (ends []) nothing
 walks-frames (f ∷ fs) w =
     walk-goes-on (joined (f ∷ fs))
     ∙ ap (λ (x : First). onward (joined (f ∷ fs)) x walk) (reads-back f (joined fs) (w .0))
-    ∙ ap (λ (l : List ℕ). before (sealed f) (walk l)) (leaves-rest f (joined fs))
+    ∙ ap (λ (l : List ℕ). before (sealed f) (walk l)) (drop-append-seam (symbolsOf f) (joined fs))
     ∙ ap (before (sealed f)) (walks-frames fs (w .1))

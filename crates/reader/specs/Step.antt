@@ -6,14 +6,8 @@ use Prim.Native.Nat.{ℕ}
 use lib.ListN.{drop}
 use denote.Ref.{RefT, now}
 use Rattle.line.specs.declared.read.Answer.{Answer}
-use Rattle.line.specs.Reader.{Said, read, no, noAt, said, Reads}
+use Rattle.line.specs.Reader.{said, behind, Reads, IsTail}
 use Rattle.reader.specs.declared.Reader.{Reader}
-
--- the place after a read at `at`: behind a frame, and the same where there is none
-unfoldable pub behind : ℕ → Said → ℕ
-behind at (read k n p) = p
-behind at (no n) = at
-behind at (noAt n p) = at
 
 -- the promise of a step from `at`: what read_frame promises of a cursor there, and the place that it leads to
 pub record Steps (line : List ℕ) (at : ℕ) (before : List ℕ) (r : Answer) (after : List ℕ) (to : ℕ) : Type 0 where
@@ -30,6 +24,14 @@ pub record Nexts (h : Reader) (before : List ℕ) (r : Answer) (after : List ℕ
   pub holds : e .line ≡ h .line
   pub steps : Steps (now (h .line)) (h .at .at) before r after (e .at .at)
 
+-- r is the reader's place
+abbrev pub IsPlace : Reader → ℕ → Type 0
+IsPlace h r = r ≡ h .at .at
+
 -- the record from the reader's place on
 abbrev pub unread : Reader → List ℕ
 unread h = drop (h .at .at) (now (h .line))
+
+-- r is the slice that the reader holds, from its place on
+abbrev pub IsUnread : Reader → RefT (List ℕ) → Type 0
+IsUnread h r = IsTail (h .line) (h .at .at) r

@@ -8,11 +8,12 @@ use denote.Ref.{RefT, now}
 use Rattle.line.specs.declared.read.Answer.{Answer}
 use Rattle.line.specs.Frame.{Frame, AllWhole, sealed, joined}
 use Rattle.line.specs.Read.{First, wrongCrc, tooShort, noFrame, first}
+use Rattle.line.specs.Theorems.{SameSlice}
 use Rattle.reader.specs.declared.Moved.{Moved}
 use Rattle.reader.specs.declared.Reader.{Reader}
-use Rattle.reader.specs.Step.{Steps, Starts, Nexts, unread}
+use Rattle.reader.specs.Step.{Steps, Starts, Nexts, IsPlace, unread, IsUnread}
 use Rattle.reader.specs.Walk.{onward, walk, drawnAll}
-use Rattle.reader.specs.Calls.{Given, ByCursor, ByReader, AllRoom, AllTold}
+use Rattle.reader.specs.Calls.{Returned, ByCursor, ByReader, AllRoom, AllTold}
 
 -- ---- 1. The walk over any record: on behind each frame, to the first place where there is none
 
@@ -40,20 +41,20 @@ WalksFrames = (fs : List Frame) → AllWhole fs → walk (joined fs) ≡ record 
 
 abbrev pub SameWalk : Type 0
 SameWalk =
-    (h e : Reader) (bs : List (List ℕ)) (gs : List Given)
+    (h e : Reader) (bs : List (List ℕ)) (gs : List Returned)
     → ByReader h bs gs e ↔ ((e .line ≡ h .line) × ByCursor (now (h .line)) (h .at .at) bs gs (e .at .at))
 
 -- ---- 4. With room for a frame, a reader's calls tell of the walk from its place
 
 abbrev pub ReaderWalks : Type 0
 ReaderWalks =
-    (h e : Reader) (bs : List (List ℕ)) (gs : List Given) → AllRoom bs → ByReader h bs gs e
+    (h e : Reader) (bs : List (List ℕ)) (gs : List Returned) → AllRoom bs → ByReader h bs gs e
     → AllTold (h .at .at) (walk (unread h) .frames) (walk (unread h) .ended) bs gs (e .at .at)
 
 -- so a new reader reads whole frames back, and then answers 14, place 0
 abbrev pub ReadsAllBack : Type 0
 ReadsAllBack =
-    (line : RefT (List ℕ)) (h e : Reader) (fs : List Frame) (bs : List (List ℕ)) (gs : List Given)
+    (line : RefT (List ℕ)) (h e : Reader) (fs : List Frame) (bs : List (List ℕ)) (gs : List Returned)
     → Starts line h → AllWhole fs → now line ≡ joined fs → AllRoom bs → ByReader h bs gs e
     → AllTold 0 (map sealed fs) (tooShort 0) bs gs (e .at .at)
 
@@ -68,10 +69,10 @@ OneNext =
     → Nexts h before r a e → Nexts h before s b f → (r ≡ s) × (a ≡ b) × (e ≡ f)
 
 abbrev pub OnePlace : Type 0
-OnePlace = (h : Reader) (r s : ℕ) → r ≡ h .at .at → s ≡ h .at .at → r ≡ s
+OnePlace = (h : Reader) (r s : ℕ) → IsPlace h r → IsPlace h s → r ≡ s
 
-abbrev pub OneRest : Type 0
-OneRest = (h : Reader) (r s : List ℕ) → r ≡ unread h → s ≡ unread h → r ≡ s
+abbrev pub OneUnread : Type 0
+OneUnread = (h : Reader) (r s : RefT (List ℕ)) → IsUnread h r → IsUnread h s → SameSlice r s
 
 abbrev pub OneMove : Type 0
 OneMove =

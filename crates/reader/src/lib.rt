@@ -3,8 +3,7 @@
 // No public function has a `requires`: whatever a caller passes is answered. specs/ says what each answer is.
 use line::read::Answer;
 use line::read::Cursor;
-ghost use mathlib.Core.Path.{_≡_};
-ghost use Rattle.reader.specs.Step.{Steps, Starts, Nexts, unread};
+ghost use Rattle.reader.specs.Step.{Steps, Starts, Nexts, IsPlace, IsUnread};
 
 // What a step answers, and the place it leads to.
 pub struct Moved {
@@ -57,14 +56,14 @@ impl<'a> Reader<'a> {
     }
 
     pub fn place(&self) -> usize
-        ensures { λ r. ⌜ r ≡ now (self .entry) .at .at ⌝ }
+        ensures { λ r. ⌜ IsPlace (now (self .entry)) r ⌝ }
     {
         self.at.at
     }
 
     // What is still unread: a part of the caller's own record.
     pub fn rest(self) -> &'a [u8]
-        ensures { λ r. ⌜ now r ≡ unread (self .entry) ⌝ }
+        ensures { λ r. ⌜ IsUnread (self .entry) r ⌝ }
     {
         line::read::rest(self.line, self.at)
     }

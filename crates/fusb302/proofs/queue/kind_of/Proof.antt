@@ -4,7 +4,7 @@ use mathlib.Core.Path.{sym, _∙_}
 use denote.Ref.{now}
 use lib.ListN.{take}
 use lib.Seq.{length-take-le}
-use Rattle.line.specs.Read.{common, kindFrom}
+use Rattle.line.specs.Kind.{common, kindFrom}
 use Rattle.machine.specs.Queue.{setSymbol}
 use Rattle.fusb302.proofs.Queueing.{kind-is, kind-none}
 use Rattle.fusb302.proofs.queue.kind_of.Statement.{statement}

@@ -44,7 +44,9 @@ joined-requires : tie.Need-joined-requires
 joined-requires c κs = search needs
 
 returns-2 : tie.Need-returns-2
-returns-2 c = crc-is (c .before .before .before .before .before .before .before .before .before .args .octets .now) _ _ (c .before .before .before .before .before .before .before .if1 .left) (c .before .before .before .before .before .crc .ensures) (c .joined .ensures)
+returns-2 c =
+    let called = c .before .before .before .before in
+    crc-is _ _ _ (called .before .before .before .if1 .left) (called .before .crc .ensures) (c .joined .ensures)
 
 pub right-spec : {M : Type 1} → statement M
 right-spec =

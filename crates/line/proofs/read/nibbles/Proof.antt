@@ -25,7 +25,7 @@ nibble-requires : tie.Need-nibble-requires Inv-loop μ-loop
 nibble-requires c κs = search needs
 
 returns-2 : tie.Need-returns-2 Inv-loop μ-loop
-returns-2 c = symbol-stops _ _ (c .before .before .before .before .before .loop .inv) (c .before .before .before .before .loop-test .taken) _ (c .before .nibble .ensures) (c .if2 .taken)
+returns-2 c = symbol-stops _ _ (search needs) (c .before .before .before .before .loop-test .taken) _ (c .before .nibble .ensures) (c .if2 .taken)
 
 add-n : tie.Need-add-n Inv-loop μ-loop
 add-n c = search needs
@@ -34,7 +34,7 @@ loop-less : tie.Need-loop-less Inv-loop μ-loop
 loop-less c = search needs
 
 loop-again : tie.Need-loop-again Inv-loop μ-loop
-loop-again c = symbol-counts _ _ (c .before .before .before .before .before .loop .inv) (c .before .before .before .before .loop-test .taken) _ (c .before .nibble .ensures) (c .if2 .left) (c .before .before .before .if1 .left)
+loop-again c = symbol-counts _ _ (search needs) (c .before .before .before .before .loop-test .taken) _ (c .before .nibble .ensures) (c .if2 .left) (c .before .before .before .if1 .left)
 
 returns-3 : tie.Need-returns-3 Inv-loop μ-loop
 returns-3 c = line-counted _ _ (c .before .loop .inv) (c .loop-test .left)

@@ -4,7 +4,7 @@ use mathlib.Core.Path.{ap, _∙_}
 use native.Mathlib.Omega.{arith}
 use lib.ListN.{length, length-drop}
 use Rattle.line.specs.Read.{setAt}
-use Rattle.line.proofs.Reading.{part-is, small, set-short, set-misfit, set-there, set-alone, set-message}
+use Rattle.line.proofs.Reading.{part-is, rest-long, small, set-short, set-misfit, set-there, set-alone, set-message}
 use Rattle.line.proofs.read.read_frame.Statement.{statement}
 use Rattle.line.proofs.read.read_frame.Tie as tie
 
@@ -27,10 +27,16 @@ enum-known-kind : tie.Need-enum-known-kind
 enum-known-kind c = search needs
 
 add-t14 : tie.Need-add-t14
-add-t14 c = omega (arith, set-there _ _ (c .before .before .before .before .set-at .ensures) _ (c .before .before .kind .given .1), ap length (c .before .before .before .before .before .rest .ensures) ∙ length-drop (c .before .before .before .before .before .before .before .before .before .args .cursor .at) (c .before .before .before .before .before .before .before .before .before .args .line .now))
+add-t14 c =
+    let part = c .before .before .before .before in
+    let start = part .before .before .before .before in
+    let there = set-there _ _ (part .set-at .ensures) _ (c .before .before .kind .given .1) in
+    omega (arith, there, rest-long (start .before .args .line .now) _ (start .before .args .cursor .at) (part .before .rest .ensures .holds))
 
 returns-2 : tie.Need-returns-2
-returns-2 c = set-alone _ _ _ (c .before .before .before .before .before .before .if1 .left) _ (c .before .before .before .before .set-at .ensures ∙ ap setAt (c .before .before .before .before .before .rest .ensures)) _ (c .before .before .kind .given .1) (c .if2 .taken)
+returns-2 c =
+    let part = c .before .before .before .before in
+    set-alone _ _ _ (part .before .before .if1 .left) _ (part .set-at .ensures ∙ ap setAt (part .before .rest .ensures .holds)) _ (c .before .before .kind .given .1) (c .if2 .taken)
 
 sub-read-message : tie.Need-sub-read-message
 sub-read-message c = set-there _ _ (c .before .before .before .before .set-at .ensures) _ (c .before .before .kind .given .1)
@@ -43,23 +49,37 @@ part-read-message-end c = search needs
 
 read-message-requires : tie.Need-read-message-requires
 read-message-requires c κs =
-    let part = c .before .before .before .before .before .before .before .rest .result .now in
-    let m = ap length (part-is part 4) ∙ length-drop 4 part in
-    (c .before .before .if2 .left, c .before .before .before .before .before .before .before .before .if1 .left, omega (arith, set-there _ _ (c .before .before .before .before .before .before .set-at .ensures) _ (c .before .before .before .before .kind .given .1), ap length (c .before .before .before .before .before .before .before .rest .ensures) ∙ length-drop (c .before .before .before .before .before .before .before .before .before .before .before .args .cursor .at) (c .before .before .before .before .before .before .before .before .before .before .before .args .line .now)))
+    let told = c .before .before .before .before in
+    let part = told .before .before in
+    let start = part .before .before .before .before in
+    let rest = part .before .rest in
+    let there = set-there _ _ (part .set-at .ensures) _ (told .kind .given .1) in
+    let behind = ap length (part-is (rest .result .now) 4) ∙ length-drop 4 (rest .result .now) in
+    let long = rest-long (start .before .args .line .now) _ (start .before .args .cursor .at) (rest .ensures .holds) in
+    (c .before .before .if2 .left, part .before .before .if1 .left, omega arith)
 
 returns-3 : tie.Need-returns-3
-returns-3 c = set-short _ _ _ (c .before .before .before .before .before .if1 .left) _ (c .before .before .before .set-at .ensures ∙ ap setAt (c .before .before .before .before .rest .ensures)) _ (c .before .place .given .1)
+returns-3 c =
+    let part = c .before .before .before in
+    set-short _ _ _ (part .before .before .if1 .left) _ (part .set-at .ensures ∙ ap setAt (part .before .rest .ensures .holds)) _ (c .before .place .given .1)
 
 returns-4 : tie.Need-returns-4
-returns-4 c = set-misfit _ _ _ (c .before .before .before .before .before .if1 .left) _ (c .before .before .before .set-at .ensures ∙ ap setAt (c .before .before .before .before .rest .ensures)) _ (c .before .place2 .given .1)
+returns-4 c =
+    let part = c .before .before .before in
+    set-misfit _ _ _ (part .before .before .if1 .left) _ (part .set-at .ensures ∙ ap setAt (part .before .rest .ensures .holds)) _ (c .before .place2 .given .1)
 
 same-length : tie.Need-same-length
 same-length c = search needs
 
 returns-5 : tie.Need-returns-5
 returns-5 c =
-    set-message _ _ _ (c .before .before .before .before .before .before .before .before .before .before .before .if1 .left) _ (c .before .before .before .before .before .before .before .before .before .set-at .ensures ∙ ap setAt (c .before .before .before .before .before .before .before .before .before .before .rest .ensures)) _ (c .before .before .before .before .before .before .before .kind .given .1) (c .before .before .before .before .before .if2 .left) _ _
-    (rw (part-is (c .before .before .before .before .before .before .before .before .before .before .rest .result .now) 4, c .before .before .before .before .before .before .before .before .before .before .rest .ensures) at (c .before .before .read-message .ensures))
+    let call = c .before .before in
+    let tested = call .before .before .before in
+    let told = tested .before .before in
+    let part = told .before .before in
+    let rest = part .before .rest in
+    set-message _ _ _ (part .before .before .if1 .left) _ (part .set-at .ensures ∙ ap setAt (rest .ensures .holds)) _ (told .kind .given .1) (tested .if2 .left) _ _
+    (rw (part-is (rest .result .now) 4, rest .ensures .holds) at (call .read-message .ensures))
 
 pub read-frame-spec : {M : Type 1} → statement M
 read-frame-spec =

@@ -3,7 +3,7 @@ use borrow.Author.Needs.{needs}
 use mathlib.Core.Path.{sym}
 use native.Mathlib.Omega.{arith}
 use lib.Seq.{length-take-le}
-use Rattle.line.proofs.Reading.{few-pairs, length-pairs, crc-wrong, crc-agrees}
+use Rattle.line.proofs.Reading.{length-pairs, crc-wrong, crc-agrees}
 use Rattle.line.proofs.read.read_octets.Statement.{statement}
 use Rattle.line.proofs.read.read_octets.Tie as tie
 
@@ -11,22 +11,22 @@ slice-aggregate-get-octets : tie.Need-slice-aggregate-get-octets
 slice-aggregate-get-octets c = search needs
 
 get-octets-requires : tie.Need-get-octets-requires
-get-octets-requires c κs = (c .before .before .before .pre .1, few-pairs (c .before .before .before .args .body .now) (c .before .before .before .args .count) (c .before .before .before .pre .1))
+get-octets-requires c κs = search needs
 
 array-share-prefix-held : tie.Need-array-share-prefix-held
-array-share-prefix-held c = omega (arith, few-pairs (c .before .before .before .before .before .args .body .now) (c .before .before .before .before .before .args .count) (c .before .before .before .before .before .pre .1), c .before .get-octets .kept .1 .1 .0)
+array-share-prefix-held c = search needs
 
 slice-aggregate-right : tie.Need-slice-aggregate-right
-slice-aggregate-right c = sym (length-take-le _ (c .before .before .get-octets .last .1 .1 .0) (omega (arith, few-pairs (c .before .before .before .before .before .before .args .body .now) (c .before .before .before .before .before .before .args .count) (c .before .before .before .before .before .before .pre .1), c .before .before .get-octets .kept .1 .1 .0)))
+slice-aggregate-right c = sym (length-take-le _ (c .before .before .get-octets .last .1 .1 .0) (omega arith))
 
 right-requires : tie.Need-right-requires
-right-requires c κs = let n = length-take-le (c .before .before .before .before .before .before .args .count) (c .before .before .get-octets .last .1 .1 .0) (omega (arith, few-pairs (c .before .before .before .before .before .before .args .body .now) (c .before .before .before .before .before .before .args .count) (c .before .before .before .before .before .before .pre .1), c .before .before .get-octets .kept .1 .1 .0)) in omega (arith, c .before .before .before .before .before .before .pre .2)
+right-requires c κs = search needs
 
 slice-aggregate-copy : tie.Need-slice-aggregate-copy
 slice-aggregate-copy c = search needs
 
 copy-requires : tie.Need-copy-requires
-copy-requires c κs = (omega (arith, few-pairs (c .before .before .before .before .before .before .before .before .before .before .args .body .now) (c .before .before .before .before .before .before .before .before .before .before .args .count) (c .before .before .before .before .before .before .before .before .before .before .pre .1), c .before .before .before .before .before .before .get-octets .kept .1 .1 .0), omega (arith, few-pairs (c .before .before .before .before .before .before .before .before .before .before .args .body .now) (c .before .before .before .before .before .before .before .before .before .before .args .count) (c .before .before .before .before .before .before .before .before .before .before .pre .1), c .before .before .before .before .before .before .before .before .before .before .pre .3))
+copy-requires c κs = search needs
 
 add-t18 : tie.Need-add-t18
 add-t18 c = search needs
@@ -41,7 +41,12 @@ same-length : tie.Need-same-length
 same-length c = search needs
 
 returns : tie.Need-returns
-returns c = crc-agrees _ _ _ _ (length-pairs (c .before .before .before .before .before .before .before .before .before .before .before .before .before .args .body .now) (c .before .before .before .before .before .before .before .before .before .before .before .before .before .args .count) (c .before .before .before .before .before .before .before .before .before .before .before .before .before .pre .1)) (few-pairs (c .before .before .before .before .before .before .before .before .before .before .before .before .before .args .body .now) (c .before .before .before .before .before .before .before .before .before .before .before .before .before .args .count) (c .before .before .before .before .before .before .before .before .before .before .before .before .before .pre .1)) (c .before .before .before .before .before .before .before .before .before .get-octets .ensures) _ (c .before .before .before .before .before .before .before .before .before .before .before .before .before .pre .0) _ (omega (arith, few-pairs (c .before .before .before .before .before .before .before .before .before .before .before .before .before .args .body .now) (c .before .before .before .before .before .before .before .before .before .before .before .before .before .args .count) (c .before .before .before .before .before .before .before .before .before .before .before .before .before .pre .1), c .before .before .before .before .before .before .before .before .before .before .before .before .before .pre .3)) _ (c .before .before .before .before .before .before .right .ensures) (c .before .before .before .before .before .if1 .taken) _ (c .before .before .copy .ensures)
+returns c =
+    let copied = c .before .before in
+    let tested = copied .before .before .before in
+    let got = tested .before .before .before .before in
+    let start = got .before .before .before .before in
+    crc-agrees _ _ _ _ (length-pairs _ _ (start .pre .1)) (start .pre .3) (got .get-octets .ensures) _ (start .pre .0) _ (omega (arith, start .pre .3)) _ (tested .before .right .ensures) (tested .if1 .taken) _ (copied .copy .ensures)
 
 mul-t22 : tie.Need-mul-t22
 mul-t22 c = search needs
@@ -50,7 +55,10 @@ add-t23 : tie.Need-add-t23
 add-t23 c = search needs
 
 returns-2 : tie.Need-returns-2
-returns-2 c = crc-wrong _ _ _ _ (length-pairs (c .before .before .before .before .before .before .before .before .args .body .now) (c .before .before .before .before .before .before .before .before .args .count) (c .before .before .before .before .before .before .before .before .pre .1)) (few-pairs (c .before .before .before .before .before .before .before .before .args .body .now) (c .before .before .before .before .before .before .before .before .args .count) (c .before .before .before .before .before .before .before .before .pre .1)) (c .before .before .before .before .get-octets .ensures) _ (c .before .before .before .before .before .before .before .before .pre .0) _ (omega (arith, few-pairs (c .before .before .before .before .before .before .before .before .args .body .now) (c .before .before .before .before .before .before .before .before .args .count) (c .before .before .before .before .before .before .before .before .pre .1), c .before .before .before .before .before .before .before .before .pre .3)) _ (c .before .right .ensures) (c .if1 .left)
+returns-2 c =
+    let got = c .before .before .before .before in
+    let start = got .before .before .before .before in
+    crc-wrong _ _ _ _ (length-pairs _ _ (start .pre .1)) (start .pre .3) (got .get-octets .ensures) _ (start .pre .0) _ (omega (arith, start .pre .3)) _ (c .before .right .ensures) (c .if1 .left)
 
 pub read-octets-spec : {M : Type 1} → statement M
 read-octets-spec =

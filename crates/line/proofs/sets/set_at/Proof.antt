@@ -25,7 +25,9 @@ shared-requires : tie.Need-shared-requires Inv-loop μ-loop
 shared-requires c κs = search needs
 
 returns : tie.Need-returns Inv-loop μ-loop
-returns c = is-set _ _ _ (c .before .before .before .before .before .loop .inv) (c .before .before .before .before .loop-test .taken) _ _ (c .before .before .before .set-of .ensures) (c .before .shared .ensures) (c .if1 .taken)
+returns c =
+    let turn = c .before .before .before .before in
+    is-set _ _ _ (turn .before .loop .inv) (turn .loop-test .taken) _ _ (c .before .before .before .set-of .ensures) (c .before .shared .ensures) (c .if1 .taken)
 
 larger-requires : tie.Need-larger-requires Inv-loop μ-loop
 larger-requires c κs = search needs
@@ -37,7 +39,7 @@ loop-less : tie.Need-loop-less Inv-loop μ-loop
 loop-less c = search needs
 
 loop-again : tie.Need-loop-again Inv-loop μ-loop
-loop-again c = next-kind _ _ _ (c .before .before .before .before .before .before .loop .inv) (c .before .before .before .before .before .loop-test .taken) _ _ _ (c .before .before .before .before .set-of .ensures) (c .before .before .shared .ensures) (c .before .if1 .left) (c .larger .ensures)
+loop-again c = next-kind _ _ _ (search needs) (search needs) _ _ _ (c .before .before .before .before .set-of .ensures) (c .before .before .shared .ensures) (c .before .if1 .left) (c .larger .ensures)
 
 returns-2 : tie.Need-returns-2 Inv-loop μ-loop
 returns-2 c = cut-set _ _ _ (c .before .before .loop .inv) (c .before .loop-test .left) (c .if2 .taken)

@@ -27,7 +27,7 @@ shared-slice-read-if2-2 : tie.Need-shared-slice-read-if2-2 Inv-loop μ-loop
 shared-slice-read-if2-2 c = search needs
 
 returns-2 : tie.Need-returns-2 Inv-loop μ-loop
-returns-2 c = differs _ _ _ (c .before .before .before .before .before .loop .inv) (c .before .before .before .before .loop-test .taken) (lt-of-le-ne (c .before .before .before .before .before .loop .inv .in-line) (c .before .before .before .if1 .left)) (c .if2 .taken)
+returns-2 c = differs _ _ _ (search needs) (c .before .before .before .before .loop-test .taken) (lt-of-le-ne (search needs) (c .before .before .before .if1 .left)) (c .if2 .taken)
 
 add-i : tie.Need-add-i Inv-loop μ-loop
 add-i c = search needs
@@ -36,7 +36,7 @@ loop-less : tie.Need-loop-less Inv-loop μ-loop
 loop-less c = search needs
 
 loop-again : tie.Need-loop-again Inv-loop μ-loop
-loop-again c = goes-on _ _ _ (c .before .before .before .before .before .loop .inv) (c .before .before .before .before .loop-test .taken) (lt-of-le-ne (c .before .before .before .before .before .loop .inv .in-line) (c .before .before .before .if1 .left)) (c .if2 .left)
+loop-again c = goes-on _ _ _ (search needs) (c .before .before .before .before .loop-test .taken) (lt-of-le-ne (search needs) (c .before .before .before .if1 .left)) (c .if2 .left)
 
 returns-3 : tie.Need-returns-3 Inv-loop μ-loop
 returns-3 c = set-ends _ _ _ (c .before .loop .inv) (c .loop-test .left)

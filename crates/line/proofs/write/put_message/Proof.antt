@@ -30,11 +30,19 @@ add-result : tie.Need-add-result
 add-result c = search needs
 
 same-length : tie.Need-same-length
-same-length c = simp length-set (omega (arith, c .before .before .before .before .before .before .before .before .before .before .before .before .before .put-set .kept .1 .0, c .before .before .before .before .before .before .before .before .before .put-octets .kept .1 .0, c .before .before .put-octets2 .kept .1 .0))
+same-length c =
+    let sealed = c .before .before in
+    let crc = sealed .before .before .before .before in
+    let encoded = crc .before .before .before in
+    simp length-set (omega (arith, encoded .before .before .before .before .put-set .kept .1 .0, encoded .put-octets .kept .1 .0, sealed .put-octets2 .kept .1 .0))
 
 returns : tie.Need-returns
 returns c =
-    message-put _ _ _ _ _ _ _ _ _ (c .before .before .before .before .before .before .before .before .before .before .before .before .before .before .before .before .before .pre .0) (c .before .before .before .before .before .before .before .before .before .before .before .before .before .put-set .ensures) (c .before .before .before .before .before .before .before .before .before .put-octets .ensures) (c .before .before .before .before .before .before .crc .ensures) (c .before .before .before .before .before .four-octets .ensures) (c .before .before .put-octets2 .ensures)
+    let sealed = c .before .before in
+    let crc = sealed .before .before .before .before in
+    let encoded = crc .before .before .before in
+    let set = encoded .before .before .before .before in
+    message-put _ _ _ _ _ _ _ _ _ (set .before .before .before .before .pre .0) (set .put-set .ensures) (encoded .put-octets .ensures) (crc .crc .ensures) (sealed .before .before .before .four-octets .ensures) (sealed .put-octets2 .ensures)
 
 pub put-message-spec : {M : Type 1} → statement M
 put-message-spec =

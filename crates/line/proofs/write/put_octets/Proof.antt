@@ -6,7 +6,7 @@ use lib.ListN.{length, drop, getD, length-set}
 use lib.Seq.{sets}
 use lib.Bits.{mask-lt}
 use Rattle.line.proofs.Stores.{put-more, put-all}
-use Rattle.line.specs.Symbol.{spelt}
+use Rattle.line.specs.Symbol.{encoded}
 use Rattle.line.proofs.write.put_octets.Statement.{statement}
 use Rattle.line.proofs.write.put_octets.Tie as tie
 use Rattle.line.proofs.write.put_octets.Reads as reads
@@ -15,7 +15,7 @@ use Rattle.line.proofs.symbols.symbol.Reads as symbol-reads
 
 abbrev Inv-loop : tie.InvT-loop
 Inv-loop octets symbols₀ at o₀ i₀ symbols o i =
-    (i ≤ length octets) × (o ≡ at + 2 * i) × (length symbols ≡ length symbols₀) × (sets symbols o (spelt (drop i octets)) ≡ sets symbols₀ at (spelt octets))
+    (i ≤ length octets) × (o ≡ at + 2 * i) × (length symbols ≡ length symbols₀) × (sets symbols o (encoded (drop i octets)) ≡ sets symbols₀ at (encoded octets))
 
 abbrev μ-loop : tie.MeasureT-loop
 μ-loop octets symbols₀ at o₀ i₀ symbols o i = length octets - i
@@ -27,7 +27,9 @@ shared-slice-read-b : tie.Need-shared-slice-read-b Inv-loop μ-loop
 shared-slice-read-b c = search needs
 
 symbol-requires : tie.Need-symbol-requires Inv-loop μ-loop
-symbol-requires c κs = mask-lt (getD (c .before .before .before .before .before .args .octets .now) (c .before .before .loop .i) 0) 4
+symbol-requires c κs =
+    let turn = c .before .before in
+    mask-lt (getD (turn .before .before .before .args .octets .now) (turn .loop .i) 0) 4
 
 slice-write-symbols : tie.Need-slice-write-symbols Inv-loop μ-loop
 slice-write-symbols c = search needs

@@ -16,7 +16,7 @@ same-length : tie.Need-same-length
 same-length c = search needs
 
 returns-3 : tie.Need-returns-3
-returns-3 c = alone-sent _ _ (c .before .before .before .before .before .before .before .if1 .left) (c .before .before .before .before .before .before .if2 .left) (c .before .before .before .before .before .if3 .taken) (c .before .before .before .before .if4 .taken) _ (c .before .before .put-set .ensures)
+returns-3 c = alone-sent _ _ (search needs) (search needs) (search needs) (c .before .before .before .before .if4 .taken) _ (c .before .before .put-set .ensures)
 
 returns-4 : tie.Need-returns-4
 returns-4 c = wrong _ _ (c .before .before .before .if1 .left) (c .before .before .if2 .left) (some-alone _ _ (c .before .if3 .taken) (c .if4 .left))
@@ -34,7 +34,7 @@ same-length-2 : tie.Need-same-length-2
 same-length-2 c = search needs
 
 returns-7 : tie.Need-returns-7
-returns-7 c = message-sent _ _ (c .before .before .before .before .before .before .before .before .if1 .left) (c .before .before .before .before .before .before .before .if2 .left) (c .before .before .before .before .before .before .if3 .left) (c .before .before .before .before .before .if5 .left) (c .before .before .before .before .if6 .left) _ _ (c .before .before .put-message .ensures)
+returns-7 c = message-sent _ _ (search needs) (search needs) (search needs) (search needs) (c .before .before .before .before .if6 .left) _ _ (c .before .before .put-message .ensures)
 
 pub write-frame-spec : {M : Type 1} → statement M
 write-frame-spec =
