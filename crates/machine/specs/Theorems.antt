@@ -203,8 +203,8 @@ SentToTheEnd =
     → frames s (e ∷ passing room ns)
     ≡ take (suc (inAll ns / wait)) (replicate (suc (latched s .retries)) f ++ sequel (latched s))
 
--- what a start in s has come to in t: whether the message failed, the Soft_Reset failed, a Hard Reset left, and the request is open.
--- An interrupt that was set before stays; none of these bits is set but by that
+-- what a start in s has come to in t: whether the message failed, the Soft_Reset failed, a Hard Reset left, and the request is open;
+-- of the interrupts, those that were set before stay, and no other is set
 pub record Shows (s t : State) (failed softFailed hardSent goesOn : Bool) : Type 0 where
   pub retryfail : has RETRYFAIL (t .status .status0a) ≡ failed
   pub softfail : has SOFTFAIL (t .status .status0a) ≡ softFailed
