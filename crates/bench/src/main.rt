@@ -2,7 +2,7 @@
 use fusb302::Device;
 use script::parse::Number;
 use script::parse::decimal;
-use script::print::LINE_ROOM;
+use script::print::BENCH_LINE_ROOM;
 use script::print::print_bad;
 use stream::Input;
 use stream::Stream;
@@ -17,7 +17,7 @@ ghost use lib.ListN.{length};
 ghost use Rattle.io.specs.Counts.{Counts};
 ghost use Rattle.fusb302.specs.View.{Asks};
 ghost use Rattle.script.specs.Parse.{Few};
-ghost use Rattle.stream.specs.Ready.{Right, Ready};
+ghost use Rattle.stream.specs.Ready.{InBuffer, Ready};
 
 pub struct Taken {
     input: Input,
@@ -26,8 +26,8 @@ pub struct Taken {
 
 // The next line without its LF; 256 octets of one that is longer than 255. At the end of the input it is empty.
 fn next_line(input: Input, buf: &mut [u8; 65536], line: &mut [u8]) -> Taken
-    requires { ⌜ Right input × (length (now line) ≡ 256) ⌝ }
-    ensures { λ r. ⌜ Right (r .input) × Counts (r .count) (now (line .exit)) ⌝ }
+    requires { ⌜ InBuffer input × (length (now line) ≡ 256) ⌝ }
+    ensures { λ r. ⌜ InBuffer (r .input) × Counts (r .count) (now (line .exit)) ⌝ }
 {
     let mut i = input;
     let mut n = 0;
@@ -53,7 +53,7 @@ fn bad(s: Stream, number: u32, out: &mut [u8]) -> Stream
     requires { ⌜ Ready s × (length (now out) ≡ 65536) ⌝ }
     ensures { λ r. ⌜ Ready r ⌝ }
 {
-    let r = room(s, LINE_ROOM, out);
+    let r = room(s, BENCH_LINE_ROOM, out);
     let input = r.input;
     let used = print_bad(number, out, r.used);
     stepped(r, input, used, true)
@@ -79,7 +79,7 @@ fn one(
     requires { ⌜ Asks device × Ready stream × (length (now line) ≡ 256) × (length (now out) ≡ 65536) ⌝ }
     ensures { λ r. ⌜ Asks (r .device) × Ready (r .stream) ⌝ }
 {
-    let ready = room(stream, LINE_ROOM, out);
+    let ready = room(stream, BENCH_LINE_ROOM, out);
     let before = ready.input;
     let taken = next_line(before, buf, line);
     let input = taken.input;

@@ -1,5 +1,5 @@
 // What is on this line? Standard input, a record, to standard output, a line of text for each frame in it.
-use listing::LINE_ROOM;
+use listing::FRAME_LINE_ROOM;
 use listing::Listing;
 use listing::begin;
 use listing::feed;
@@ -11,13 +11,11 @@ use stream::room;
 use stream::stepped;
 ghost use mathlib.Core.Path.{_≡_};
 ghost use mathlib.Core.Bool.{true};
-ghost use Prim.Native.Nat.{_+_, _≤_, _<_, _^_};
+ghost use Prim.Native.Nat.{_≤_, _<_};
 ghost use lib.ListN.{length};
 ghost use Rattle.text.specs.Put.{hasRoom};
-ghost use Rattle.listing.specs.Lines.{lineRoom};
-ghost use Rattle.listing.specs.Promises.{Right};
+ghost use Rattle.listing.specs.Lines.{frameLineRoom};
 ghost use Rattle.stream.specs.Ready.{Ready};
-ghost use Rattle.frames.specs.Holds.{Holds};
 
 // Between characters: the stream, and what is held of the record.
 pub struct Run {
@@ -27,8 +25,8 @@ pub struct Run {
 
 // The end of the input: what is then said, and no more.
 fn end(stream: Stream, listing: Listing, out: &mut [u8]) -> Run
-    requires { ⌜ Ready stream × Right listing × (length (now out) ≡ 65536) × (hasRoom lineRoom (now out) (stream .used) ≡ true) ⌝ }
-    ensures { λ r. ⌜ Ready (r .stream) × (r .listing ≡ listing) ⌝ }
+    requires { ⌜ Ready stream × (length (now out) ≡ 65536) × (hasRoom frameLineRoom (now out) (stream .used) ≡ true) ⌝ }
+    ensures { λ r. ⌜ Ready (r .stream) ⌝ }
 {
     let input = stream.input;
     let used = finish(listing, out, stream.used);
@@ -44,8 +42,8 @@ fn take(
     window: &mut [u8; 73],
     out: &mut [u8],
 ) -> Run
-    requires { ⌜ Ready stream × (stream .input .at < stream .input .end) × Right listing × (length (now out) ≡ 65536) × (hasRoom lineRoom (now out) (stream .used) ≡ true) ⌝ }
-    ensures { λ r. ⌜ Ready (r .stream) × Holds (listing .before + listing .count + 1) (r .listing) ⌝ }
+    requires { ⌜ Ready stream × (stream .input .at < stream .input .end) × (length (now out) ≡ 65536) × (hasRoom frameLineRoom (now out) (stream .used) ≡ true) ⌝ }
+    ensures { λ r. ⌜ Ready (r .stream) ⌝ }
 {
     let input = stream.input;
     let at = input.at;
@@ -60,15 +58,15 @@ fn take(
     Run { stream, listing }
 }
 
-// One character, or the end of the input; taken is the number of those before it.
-fn one(run: Run, taken: usize, buf: &mut [u8; 65536], window: &mut [u8; 73], out: &mut [u8]) -> Run
-    requires { ⌜ Ready (run .stream) × Holds taken (run .listing) × (taken + 1 < 2 ^ 64) × (length (now out) ≡ 65536) ⌝ }
-    ensures { λ r. ⌜ Ready (r .stream) × Holds (taken + 1) (r .listing) ⌝ }
+// One character, or the end of the input.
+fn one(run: Run, buf: &mut [u8; 65536], window: &mut [u8; 73], out: &mut [u8]) -> Run
+    requires { ⌜ Ready (run .stream) × (length (now out) ≡ 65536) ⌝ }
+    ensures { λ r. ⌜ Ready (r .stream) ⌝ }
 {
     let listing = run.listing;
     let before = run.stream;
     let filled = fill(before, buf, out);
-    let stream = room(filled, LINE_ROOM, out);
+    let stream = room(filled, FRAME_LINE_ROOM, out);
     let input = stream.input;
     if input.at < input.end {
         return take(stream, listing, buf, window, out);
@@ -86,7 +84,7 @@ fn all(buf: &mut [u8; 65536], window: &mut [u8; 73], out: &mut [u8]) -> usize
     let mut run = Run { stream, listing };
     let mut taken = 0;
     while taken < usize::MAX {
-        run = one(run, taken, buf, window, out);
+        run = one(run, buf, window, out);
         taken += 1;
         let stream = run.stream;
         if !stream.on {

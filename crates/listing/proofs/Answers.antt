@@ -1,6 +1,6 @@
 -- What the reader's answer says of the symbols that it was given, with room for any frame's octets.
 -- Assumes nothing.
-use mathlib.Core.Path.{_≡_, refl, sym, ap, _∙_, subst}
+use mathlib.Core.Path.{_≡_, sym, ap, _∙_}
 use mathlib.Core.List.{List}
 use Prim.Native.Nat.{ℕ, _≤_}
 use native.Mathlib.Omega.{arith}
@@ -9,7 +9,6 @@ use lib.Seq.{take-at}
 use Rattle.line.specs.declared.read.Answer.{Answer}
 use Rattle.line.specs.declared.read.Answer.the-variants.{Frame, SmallBuffer, NoFrame, TooShort, WrongCrc}
 use Rattle.line.specs.declared.read.Cursor.{Cursor}
-use Rattle.line.specs.Frame.{Shape}
 use Rattle.line.specs.Read.{First, frame, wrongCrc, tooShort, noFrame, first}
 use Rattle.line.specs.Reader.{octetRoom, said, saysOf, filled, Reads}
 use Rattle.line.proofs.Tails.{with-room}

@@ -3,10 +3,11 @@ pub mod Places
 pub mod Answers
 pub mod Texts
 pub mod Goings
+pub mod Staying
 pub mod Symbols
 pub mod Forms
 pub mod Walks
 pub mod Lists
-pub mod Called
+pub mod CallsPrinting
 pub mod Outcomes
 pub mod Worked

@@ -14,11 +14,11 @@ use Rattle.reader.specs.Walk.{Walked, ends, before, walk, drawnAll}
 use Rattle.reader.proofs.Walking.{walks-frames}
 use Rattle.listing.specs.declared.form.Scan.{Scan}
 use Rattle.listing.specs.declared.form.Scan.the-variants.{Begin, Digit, Symbol, Line, Space, Broken}
-use Rattle.listing.specs.Form.{Recorded, broken}
-use Rattle.listing.specs.Lines.{frameText, noText, badText}
+use Rattle.listing.specs.Form.{ReadText, broken}
+use Rattle.listing.specs.Lines.{frameText, noText, badOctetText}
 use Rattle.listing.specs.Listed.{framesText, shortText, lastText, walkText, listed}
-use Rattle.listing.specs.Scans.{after, mayEnd}
-use Rattle.listing.specs.Steps.{State, Step, start, onSymbol, stepTo, step, endText, thenAll, printedFrom}
+use Rattle.listing.specs.Scans.{formAfter, inputMayEnd}
+use Rattle.listing.specs.Steps.{ListingState, Step, emptyState, onSymbol, stepTo, characterStep, endText, thenAll, printedFrom}
 use Rattle.listing.specs.Theorems.{ShowsFrames, ListsAll}
 use Rattle.listing.proofs.Forms.{toCome, withLast, come-end, come-on}
 use Rattle.listing.proofs.Walks.{frame-all, walk-frame, walk-wrong, walk-none, walk-short}
@@ -45,30 +45,30 @@ text-ends kept p l f = let place : p + 0 ≡ p = omega arith in ap (λ (m : ℕ)
 pub shows-frames : ShowsFrames
 unfolding walkText lastText shortText listed
 shows-frames input fs whole is =
-    ap (λ (r : Recorded). walkText (r .kept) 0 (walk (r .symbols))) is
+    ap (λ (r : ReadText). walkText (r .kept) 0 (walk (r .symbols))) is
     ∙ ap (walkText true 0) (walks-frames fs whole)
     ∙ append-nil (framesText 0 (map sealed fs))
 
 -- ---- the text of a record of which some symbols are known
 
 -- w are known, r is still to come
-told : ℕ → List ℕ → Recorded → List ℕ
+told : ℕ → List ℕ → ReadText → List ℕ
 told p w r = walkText (r .kept) p (walk (w ++ r .symbols))
 
 module _ (p : ℕ) (l : List ℕ) where
-  told-frame : (r : Recorded) (s : Shape) → first l ≡ frame s → drawn s ≡ l → told p l r ≡ frameText p s ++ told (p + length l) [] r
+  told-frame : (r : ReadText) (s : Shape) → first l ≡ frame s → drawn s ≡ l → told p l r ≡ frameText p s ++ told (p + length l) [] r
   unfolding told
   told-frame r s e is =
       ap (walkText (r .kept) p) (walk-frame l (r .symbols) s e is)
       ∙ text-before (r .kept) p s (walk (r .symbols))
       ∙ ap (λ (d : List ℕ). frameText p s ++ walkText (r .kept) (p + length d) (walk (r .symbols))) is
 
-  told-none : (r : Recorded) (q : ℕ) → first l ≡ noFrame q → told p l r ≡ noText 13 (p + q)
+  told-none : (r : ReadText) (q : ℕ) → first l ≡ noFrame q → told p l r ≡ noText 13 (p + q)
   unfolding told lastText
   told-none r q e =
       ap (walkText (r .kept) p) (walk-none l (r .symbols) q e) ∙ text-ends (r .kept) p (l ++ r .symbols) (noFrame q)
 
-  told-wrong : (r : Recorded) (q : ℕ) → first l ≡ wrongCrc q → told p l r ≡ noText 15 (p + q)
+  told-wrong : (r : ReadText) (q : ℕ) → first l ≡ wrongCrc q → told p l r ≡ noText 15 (p + q)
   unfolding told lastText
   told-wrong r q e =
       ap (walkText (r .kept) p) (walk-wrong l (r .symbols) q e) ∙ text-ends (r .kept) p (l ++ r .symbols) (wrongCrc q)
@@ -80,12 +80,12 @@ module _ (p : ℕ) (l : List ℕ) where
       ∙ ap (walkText kept p) (walk-short l q e)
       ∙ text-ends kept p l (tooShort q)
 
-  told-broken : (q : ℕ) → first l ≡ tooShort q → told p l broken ≡ badText (p + length l + 1)
+  told-broken : (q : ℕ) → first l ≡ tooShort q → told p l broken ≡ badOctetText (p + length l + 1)
   unfolding broken shortText
   told-broken q e = told-short false q e
 
   -- the first symbol to come is as good as known
-  told-last : (v : ℕ) (r : Recorded) → told p (l ++ (v ∷ [])) r ≡ told p l (withLast (Symbol v) r)
+  told-last : (v : ℕ) (r : ReadText) → told p (l ++ (v ∷ [])) r ≡ told p l (withLast (Symbol v) r)
   unfolding told withLast
   told-last v r = ap (λ (x : List ℕ). walkText (r .kept) p (walk x)) (append-snoc l v (r .symbols))
 
@@ -94,7 +94,7 @@ module _ (p : ℕ) (l : List ℕ) where
 -- from any state on the text of what is known and what is to come is printed
 abbrev Lists : List ℕ → Type 0
 Lists input =
-    (s : State) (q : ℕ) → first (s .symbols) ≡ tooShort q → printedFrom s input ≡ told (s .before) (s .symbols) (toCome (s .scan) input)
+    (s : ListingState) (q : ℕ) → first (s .symbols) ≡ tooShort q → printedFrom s input ≡ told (s .before) (s .symbols) (toCome (s .scan) input)
 
 nothing : first [] ≡ tooShort 0
 unfolding common kindFrom furthest setOr setAt afterSet shapeAt firstOf first
@@ -111,7 +111,7 @@ module _ (input : List ℕ) (rest : Lists input) (p : ℕ) (w : List ℕ) (q : �
     abbrev known : List ℕ
     known = w ++ (v ∷ [])
 
-    abbrev coming : Recorded
+    abbrev coming : ReadText
     coming = toCome (Symbol v) input
 
     on-symbol : (f : First) → first known ≡ f → all (onSymbol (Symbol v) p known f) ≡ told p known coming
@@ -133,16 +133,16 @@ module _ (input : List ℕ) (rest : Lists input) (p : ℕ) (w : List ℕ) (q : �
   on-char Broken = sym (told-broken p w q e)
 
 lists : (input : List ℕ) → Lists input
-unfolding printedFrom endText step all
+unfolding printedFrom endText characterStep all
 lists [] s q e =
-    sym (told-short (s .before) (s .symbols) (mayEnd (s .scan)) q e)
+    sym (told-short (s .before) (s .symbols) (inputMayEnd (s .scan)) q e)
     ∙ ap (told (s .before) (s .symbols)) (sym (come-end (s .scan)))
 lists (c ∷ input) s q e =
-    on-char input (lists input) (s .before) (s .symbols) q e (after (s .scan) c)
+    on-char input (lists input) (s .before) (s .symbols) q e (formAfter (s .scan) c)
     ∙ ap (told (s .before) (s .symbols)) (sym (come-on (s .scan) c input))
 
 -- ---- 1. Character by character, all of an input is listed
 
 pub lists-all : ListsAll
-unfolding told toCome listed start
-lists-all input = lists input start 0 nothing
+unfolding told toCome listed emptyState
+lists-all input = lists input emptyState 0 nothing

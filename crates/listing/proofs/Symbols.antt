@@ -1,6 +1,6 @@
 -- A symbol is put behind those held, and what the reader answers of all of them says how the step goes.
 -- Assumes nothing.
-use mathlib.Core.Path.{_≡_, refl, sym, ap, subst}
+use mathlib.Core.Path.{_≡_, subst}
 use mathlib.Core.Bool.{true, false}
 use mathlib.Core.List.{List, [], _∷_, _++_}
 use Prim.Native.Nat.{ℕ, _+_, _<_, _≤_, _^_}
@@ -15,13 +15,13 @@ use Rattle.text.specs.Put.{hasRoom, Puts}
 use Rattle.listing.specs.declared.form.Scan.the-variants.{Symbol}
 use Rattle.listing.specs.declared.Listing.{Listing}
 use Rattle.listing.specs.declared.Fed.{Fed}
-use Rattle.listing.specs.Lines.{frameText, noText, lineRoom}
-use Rattle.listing.specs.Promises.{windowRoom, Right, stopped, Goes}
+use Rattle.listing.specs.Lines.{frameText, noText, frameLineRoom}
+use Rattle.listing.specs.Promises.{windowRoom, Bounded, stopped, Goes}
 use Rattle.listing.proofs.Places.{no-frame-place, wrong-crc-place}
 use Rattle.listing.proofs.Answers.{is-frame, is-none, is-short, is-wrong, not-small, count-fits}
 use Rattle.listing.proofs.Goings.{one-more, all-long, goes-frame, goes-short, goes-none, goes-wrong, gives}
 
-module _ (l : Listing) (window out : List ℕ) (at : ℕ) (right : Right l) (long : length window ≡ windowRoom) (roomy : hasRoom lineRoom out at ≡ true)
+module _ (l : Listing) (window out : List ℕ) (at : ℕ) (right : Bounded l) (long : length window ≡ windowRoom) (roomy : hasRoom frameLineRoom out at ≡ true)
     (v : ℕ) (lent octets : List ℕ) (a : Answer) (room : length lent ≡ octetRoom) (kept : length octets ≡ octetRoom)
     (reads : Reads (take (l .count + 1) (set window (l .count) v)) 0 lent a octets) where
   abbrev all : List ℕ

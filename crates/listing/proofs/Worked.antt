@@ -10,12 +10,12 @@ use Rattle.reader.specs.Walk.{ends, before, onward, walkFor, walk, drawnAll}
 use Rattle.text.specs.Hex as hex
 use Rattle.text.specs.Put.{decimalOf, spaced, octetsText}
 use Rattle.listing.specs.Form.{ended, broken, symbolThen, gapThen, symbolsIn, recorded}
-use Rattle.listing.specs.Lines.{placeText, frameText, noText, badText}
+use Rattle.listing.specs.Lines.{placeText, frameText, noText, badOctetText}
 use Rattle.listing.specs.Listed.{framesText, shortText, lastText, walkText, listed}
 use Rattle.listing.specs.Cases.{Cases}
 
 pub cases : Cases
-unfolding symbolOf placeOf nibbleOf isNibble encoded octetsOf setOf carries poly crcBit crcBits crcOctet crcFrom crcOf fourOctets number crcRight drawn common kindFrom furthest setOr setAt nibbleRun mayEnd endOr bodyAt withSet afterSet shapeAt checked firstOf first ends before onward walkFor walk drawnAll hex.isHex hex.nibbleOf hex.octetOf hex.digitOf hex.hexOf decimalOf spaced octetsText ended broken symbolThen gapThen symbolsIn recorded placeText frameText noText badText framesText shortText lastText walkText listed
+unfolding symbolOf placeOf nibbleOf isNibble encoded octetsOf setOf carries poly crcBit crcBits crcOctet crcFrom crcOf fourOctets number crcRight drawn common kindFrom furthest setOr setAt nibbleRun mayEnd endOr bodyAt withSet afterSet shapeAt checked firstOf first ends before onward walkFor walk drawnAll hex.isHex hex.hexValue hex.octetOf hex.digitOf hex.hexOf decimalOf spaced octetsText ended broken symbolThen gapThen symbolsIn recorded placeText frameText noText badOctetText framesText shortText lastText walkText listed
 cases =
     record {
       empty = refl;

@@ -7,35 +7,35 @@ use lib.Dec.{eqb}
 use Rattle.text.specs.Hex.{isHex, octetOf}
 
 -- the symbols before the form breaks, and whether it is kept to the end
-pub record Recorded : Type 0 where
+pub record ReadText : Type 0 where
   pub symbols : List ℕ
   pub kept : Bool
 
-unfoldable pub ended : Recorded
+unfoldable pub ended : ReadText
 ended = record { symbols = []; kept = true }
 
-unfoldable pub broken : Recorded
+unfoldable pub broken : ReadText
 broken = record { symbols = []; kept = false }
 
 -- two characters, and what is behind them
-unfoldable pub symbolThen : ℕ → ℕ → Recorded → Recorded
+unfoldable pub symbolThen : ℕ → ℕ → ReadText → ReadText
 symbolThen a b r = cond (isHex a && isHex b) (record { symbols = octetOf a b ∷ r .symbols; kept = r .kept }) broken
 
-abbrev pub none : List ℕ → Bool
-none [] = true
-none (c ∷ l) = false
+abbrev pub isEmpty : List ℕ → Bool
+isEmpty [] = true
+isEmpty (c ∷ l) = false
 
 -- a character behind a symbol, and what is behind it: r, if that begins with a symbol
-unfoldable pub gapThen : ℕ → List ℕ → Recorded → Recorded
-gapThen c l r = cond (eqb c 0x0A && none l) ended (cond (eqb c 0x0A || eqb c 0x20) r broken)
+unfoldable pub gapThen : ℕ → List ℕ → ReadText → ReadText
+gapThen c l r = cond (eqb c 0x0A && isEmpty l) ended (cond (eqb c 0x0A || eqb c 0x20) r broken)
 
 -- one symbol or more
-unfoldable pub symbolsIn : List ℕ → Recorded
+unfoldable pub symbolsIn : List ℕ → ReadText
 symbolsIn [] = broken
 symbolsIn (a ∷ []) = broken
 symbolsIn (a ∷ b ∷ []) = symbolThen a b ended
 symbolsIn (a ∷ b ∷ c ∷ l) = symbolThen a b (gapThen c l (symbolsIn l))
 
-unfoldable pub recorded : List ℕ → Recorded
+unfoldable pub recorded : List ℕ → ReadText
 recorded [] = ended
 recorded (c ∷ l) = symbolsIn (c ∷ l)

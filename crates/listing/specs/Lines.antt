@@ -19,9 +19,9 @@ unfoldable pub noText : ℕ → ℕ → List ℕ
 noText n p = text "no" ++ (decimalOf 2 n ++ ((0x20 ∷ []) ++ (placeText p ++ (0x0A ∷ []))))
 
 -- `bad octet N`
-unfoldable pub badText : ℕ → List ℕ
-badText n = text "bad octet " ++ (placeText n ++ (0x0A ∷ []))
+unfoldable pub badOctetText : ℕ → List ℕ
+badOctetText n = text "bad octet " ++ (placeText n ++ (0x0A ∷ []))
 
 -- room for any line: a place, a space and the kind, 34 octets, LF
-abbrev pub lineRoom : ℕ
-lineRoom = 125
+abbrev pub frameLineRoom : ℕ
+frameLineRoom = 125

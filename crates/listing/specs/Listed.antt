@@ -7,8 +7,8 @@ use lib.ListN.{length}
 use Rattle.line.specs.Frame.{Shape, drawn}
 use Rattle.line.specs.Read.{First, frame, wrongCrc, tooShort, noFrame}
 use Rattle.reader.specs.Walk.{Walked, walk, drawnAll}
-use Rattle.listing.specs.Form.{Recorded, recorded}
-use Rattle.listing.specs.Lines.{frameText, noText, badText}
+use Rattle.listing.specs.Form.{recorded}
+use Rattle.listing.specs.Lines.{frameText, noText, badOctetText}
 
 -- the frames from a place on
 unfoldable pub framesText : ℕ → List Shape → List ℕ
@@ -19,7 +19,7 @@ framesText p (s ∷ ss) = frameText p s ++ framesText (p + length (drawn s)) ss
 unfoldable pub shortText : Bool → ℕ → ℕ → List ℕ
 shortText true p zero = []
 shortText true p (suc n) = noText 14 (p + suc n)
-shortText false p n = badText (p + n + 1)
+shortText false p n = badOctetText (p + n + 1)
 
 -- what ends the walk; p is the place of what is left, and no walk ends with a frame
 unfoldable pub lastText : Bool → ℕ → List ℕ → First → List ℕ

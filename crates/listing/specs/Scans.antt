@@ -16,19 +16,19 @@ secondDigit a c = cond (isHex c) (Symbol (octetOf a c)) Broken
 unfoldable pub gap : ℕ → Scan
 gap c = cond (eqb c 0x0A) Line (cond (eqb c 0x20) Space Broken)
 
-unfoldable pub after : Scan → ℕ → Scan
-after Begin c = firstDigit c
-after (Digit a) c = secondDigit a c
-after (Symbol v) c = gap c
-after Line c = firstDigit c
-after Space c = firstDigit c
-after Broken c = Broken
+unfoldable pub formAfter : Scan → ℕ → Scan
+formAfter Begin c = firstDigit c
+formAfter (Digit a) c = secondDigit a c
+formAfter (Symbol v) c = gap c
+formAfter Line c = firstDigit c
+formAfter Space c = firstDigit c
+formAfter Broken c = Broken
 
 -- whether the input may end there
-abbrev pub mayEnd : Scan → Bool
-mayEnd Begin = true
-mayEnd (Digit a) = false
-mayEnd (Symbol v) = true
-mayEnd Line = true
-mayEnd Space = false
-mayEnd Broken = false
+abbrev pub inputMayEnd : Scan → Bool
+inputMayEnd Begin = true
+inputMayEnd (Digit a) = false
+inputMayEnd (Symbol v) = true
+inputMayEnd Line = true
+inputMayEnd Space = false
+inputMayEnd Broken = false

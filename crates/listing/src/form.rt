@@ -2,7 +2,7 @@
 use text::hex::is_hex;
 use text::hex::octet_of;
 ghost use mathlib.Core.Path.{_≡_};
-ghost use Rattle.listing.specs.Scans.{firstDigit, secondDigit, gap, after, mayEnd};
+ghost use Rattle.listing.specs.Scans.{firstDigit, secondDigit, gap, formAfter, inputMayEnd};
 
 // What the text read so far ends with: nothing yet, the first digit of a symbol, a symbol, one LF or one space behind it.
 pub enum Scan {
@@ -42,8 +42,8 @@ fn gap(c: u8) -> Scan
     }
 }
 
-pub(crate) fn after(scan: Scan, c: u8) -> Scan
-    ensures { λ r. ⌜ r ≡ after scan c ⌝ }
+pub(crate) fn form_after(scan: Scan, c: u8) -> Scan
+    ensures { λ r. ⌜ r ≡ formAfter scan c ⌝ }
 {
     match scan {
         Scan::Begin => first_digit(c),
@@ -56,8 +56,8 @@ pub(crate) fn after(scan: Scan, c: u8) -> Scan
 }
 
 // Whether the input may end there.
-pub(crate) fn may_end(scan: Scan) -> bool
-    ensures { λ r. ⌜ r ≡ mayEnd scan ⌝ }
+pub(crate) fn input_may_end(scan: Scan) -> bool
+    ensures { λ r. ⌜ r ≡ inputMayEnd scan ⌝ }
 {
     match scan {
         Scan::Begin => true,

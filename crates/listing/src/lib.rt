@@ -8,23 +8,27 @@ mod form;
 mod print;
 
 use crate::form::Scan;
-use crate::form::after;
-use crate::form::may_end;
+use crate::form::form_after;
+use crate::form::input_may_end;
 use crate::print::put_bad;
 use crate::print::put_frame;
 use crate::print::put_no;
 ghost use mathlib.Core.Path.{_≡_};
-ghost use mathlib.Core.Bool.{true};
+ghost use mathlib.Core.Bool.{true, _&&_};
 ghost use Prim.Native.Nat.{_+_, _≤_, _<_, _^_};
+ghost use lib.Dec.{leb};
 ghost use lib.ListN.{length};
-ghost use Rattle.text.specs.Put.{hasRoom, Puts, Prints};
-ghost use Rattle.listing.specs.Lines.{lineRoom};
+ghost use Rattle.text.specs.Put.{hasRoom, Puts};
+ghost use Rattle.listing.specs.Lines.{frameLineRoom};
 ghost use Rattle.listing.specs.declared.form.Scan.the-variants.{Symbol};
-ghost use Rattle.listing.specs.Steps.{start, endText};
-ghost use Rattle.listing.specs.Promises.{listingOf, stopped, Right, Goes, Takes};
+ghost use Rattle.listing.specs.Steps.{endText};
+ghost use Rattle.listing.specs.Promises.{Bounded, inBounds, stopped, Goes, BeginsListing, Feeds, Finishes};
 
 // Room for any line: a place, a space and the kind, 34 octets, LF.
-pub const LINE_ROOM: usize = 125;
+pub const FRAME_LINE_ROOM: usize = 125;
+
+// The longest frame.
+const WINDOW_ROOM: usize = 73;
 
 // What is held of an input: its form so far, the place of the symbols that no frame has yet, and how many these are. They stand at the beginning of the window.
 pub struct Listing {
@@ -41,7 +45,7 @@ pub struct Fed {
 }
 
 pub fn begin() -> Listing
-    ensures { λ r. ⌜ r ≡ listingOf start ⌝ }
+    ensures { λ r. ⌜ BeginsListing r ⌝ }
 {
     Listing {
         scan: Scan::Begin,
@@ -62,7 +66,7 @@ fn stop(listing: Listing, at: usize) -> Fed
 
 // A symbol: with those before it a frame, a part of one, or neither.
 fn symbol(listing: Listing, v: u8, window: &mut [u8], out: &mut [u8], at: usize) -> Fed
-    requires { ⌜ Right listing × (length (now window) ≡ 73) × (hasRoom lineRoom (now out) at ≡ true) ⌝ }
+    requires { ⌜ Bounded listing × (length (now window) ≡ 73) × (hasRoom frameLineRoom (now out) at ≡ true) ⌝ }
     ensures { λ r. ⌜ Goes listing (Symbol v) (now (window .entry)) (now (out .entry)) at r (now (window .exit)) (now (out .exit)) ⌝ }
 {
     let place = listing.before;
@@ -100,7 +104,7 @@ fn symbol(listing: Listing, v: u8, window: &mut [u8], out: &mut [u8], at: usize)
 
 // By what the text ends with now.
 fn go(listing: Listing, to: Scan, window: &mut [u8], out: &mut [u8], at: usize) -> Fed
-    requires { ⌜ Right listing × (length (now window) ≡ 73) × (hasRoom lineRoom (now out) at ≡ true) ⌝ }
+    requires { ⌜ Bounded listing × (length (now window) ≡ 73) × (hasRoom frameLineRoom (now out) at ≡ true) ⌝ }
     ensures { λ r. ⌜ Goes listing to (now (window .entry)) (now (out .entry)) at r (now (window .exit)) (now (out .exit)) ⌝ }
 {
     let place = listing.before;
@@ -120,23 +124,43 @@ fn go(listing: Listing, to: Scan, window: &mut [u8], out: &mut [u8], at: usize) 
     }
 }
 
-// Takes a character. Where a line of text need not fit behind `at`, it takes none and the listing ends.
-pub fn feed(listing: Listing, c: u8, window: &mut [u8; 73], out: &mut [u8], at: usize) -> Fed
-    requires { ⌜ Right listing ⌝ }
-    ensures { λ r. ⌜ Takes (hasRoom lineRoom (now (out .entry)) at) listing c (now (window .entry)) (now (out .entry)) at r (now (window .exit)) (now (out .exit)) ⌝ }
+// Whether fewer symbols are held than the longest frame has, and the next one's number can be printed.
+fn in_bounds(listing: Listing) -> bool
+    ensures { λ r. ⌜ r ≡ inBounds listing ⌝ }
 {
-    if has_room(LINE_ROOM, out.len(), at) {
+    let count = listing.count;
+    if count < WINDOW_ROOM {
+        return listing.before < usize::MAX - count;
+    }
+    false
+}
+
+// Whether so many octets have room for any line behind `at`, and the listing is in bounds.
+fn may_print(listing: Listing, octets: usize, at: usize) -> bool
+    ensures { λ r. ⌜ r ≡ (inBounds listing && leb (at + frameLineRoom) octets) ⌝ }
+{
+    if in_bounds(listing) {
+        return has_room(FRAME_LINE_ROOM, octets, at);
+    }
+    false
+}
+
+// Takes a character. Where a line of text need not fit behind `at`, or 64 bits do not count its symbols, it takes none and the listing ends.
+pub fn feed(listing: Listing, c: u8, window: &mut [u8; 73], out: &mut [u8], at: usize) -> Fed
+    ensures { λ r. ⌜ Feeds listing c (now (window .entry)) (now (out .entry)) at r (now (window .exit)) (now (out .exit)) ⌝ }
+{
+    if may_print(listing, out.len(), at) {
         let scan = listing.scan;
-        return go(listing, after(scan, c), window, out, at);
+        return go(listing, form_after(scan, c), window, out, at);
     }
     stop(listing, at)
 }
 
 fn put_end(scan: Scan, place: usize, count: usize, out: &mut [u8], at: usize) -> usize
-    requires { ⌜ (place + count + 1 < 2 ^ 64) × (at + lineRoom ≤ length (now out)) ⌝ }
+    requires { ⌜ (place + count + 1 < 2 ^ 64) × (at + frameLineRoom ≤ length (now out)) ⌝ }
     ensures { λ r. ⌜ Puts (now (out .entry)) at (endText scan place count) r (now (out .exit)) ⌝ }
 {
-    if may_end(scan) {
+    if input_may_end(scan) {
         if count == 0 {
             return at;
         }
@@ -145,12 +169,11 @@ fn put_end(scan: Scan, place: usize, count: usize, out: &mut [u8], at: usize) ->
     put_bad(place + count + 1, out, at)
 }
 
-// The input ends: prints what is then said, and where a line need not fit nothing.
+// The input ends: prints what is then said, or nothing where `feed` would take nothing.
 pub fn finish(listing: Listing, out: &mut [u8], at: usize) -> usize
-    requires { ⌜ Right listing ⌝ }
-    ensures { λ r. ⌜ Prints (hasRoom lineRoom (now (out .entry)) at) (now (out .entry)) at (endText (listing .scan) (listing .before) (listing .count)) r (now (out .exit)) ⌝ }
+    ensures { λ r. ⌜ Finishes listing (now (out .entry)) at r (now (out .exit)) ⌝ }
 {
-    if has_room(LINE_ROOM, out.len(), at) {
+    if may_print(listing, out.len(), at) {
         let scan = listing.scan;
         return put_end(scan, listing.before, listing.count, out, at);
     }

@@ -6,13 +6,13 @@ use text::put::put_text;
 ghost use Prim.Native.Nat.{_+_, _≤_};
 ghost use lib.ListN.{length};
 ghost use Rattle.text.specs.Put.{Puts};
-ghost use Rattle.listing.specs.Lines.{frameText, noText, badText, lineRoom};
+ghost use Rattle.listing.specs.Lines.{frameText, noText, badOctetText, frameLineRoom};
 
 // As many digits as any place or number has.
 const PLACE_DIGITS: usize = 20;
 
 pub(crate) fn put_frame(place: usize, kind: u8, octets: &[u8], out: &mut [u8], at: usize) -> usize
-    requires { ⌜ (length (now octets) ≤ 34) × (at + lineRoom ≤ length (now out)) ⌝ }
+    requires { ⌜ (length (now octets) ≤ 34) × (at + frameLineRoom ≤ length (now out)) ⌝ }
     ensures { λ r. ⌜ Puts (now (out .entry)) at (frameText place (record { kind = kind; octets = now (octets .entry) })) r (now (out .exit)) ⌝ }
 {
     let a = put_decimal(place, PLACE_DIGITS, out, at);
@@ -23,7 +23,7 @@ pub(crate) fn put_frame(place: usize, kind: u8, octets: &[u8], out: &mut [u8], a
 }
 
 pub(crate) fn put_no(number: usize, place: usize, out: &mut [u8], at: usize) -> usize
-    requires { ⌜ at + lineRoom ≤ length (now out) ⌝ }
+    requires { ⌜ at + frameLineRoom ≤ length (now out) ⌝ }
     ensures { λ r. ⌜ Puts (now (out .entry)) at (noText number place) r (now (out .exit)) ⌝ }
 {
     let a = put_text(b"no", out, at);
@@ -34,8 +34,8 @@ pub(crate) fn put_no(number: usize, place: usize, out: &mut [u8], at: usize) -> 
 }
 
 pub(crate) fn put_bad(number: usize, out: &mut [u8], at: usize) -> usize
-    requires { ⌜ at + lineRoom ≤ length (now out) ⌝ }
-    ensures { λ r. ⌜ Puts (now (out .entry)) at (badText number) r (now (out .exit)) ⌝ }
+    requires { ⌜ at + frameLineRoom ≤ length (now out) ⌝ }
+    ensures { λ r. ⌜ Puts (now (out .entry)) at (badOctetText number) r (now (out .exit)) ⌝ }
 {
     let a = put_text(b"bad octet ", out, at);
     let b = put_decimal(number, PLACE_DIGITS, out, a);

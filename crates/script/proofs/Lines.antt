@@ -16,7 +16,7 @@ use Rattle.machine.specs.Events.{Event, read, hardReset, packet}
 use Rattle.script.specs.declared.parse.Line.{Line}
 use Rattle.script.specs.declared.parse.Line.the-variants.{Write, Read, HardReset, Packet, Bad}
 use Rattle.script.specs.Text.{fits, octetAt, digitsIn, areOctets, octetsIn}
-use Rattle.script.specs.Parse.{countOf, written, timed, kindPart, octetPart, packetOf, formOf, eventOf, setupOf, lineOf, octetsOf, Parses}
+use Rattle.script.specs.Parse.{countOf, writeEvent, timed, kindPart, octetPart, packetOf, formOf, eventOf, setupOf, lineOf, packetOctets, Parses}
 use Rattle.script.proofs.Masks.{lengths-differ}
 use Rattle.script.proofs.Numbers.{too-few}
 
@@ -74,7 +74,7 @@ module _ (s before : List ℕ) (n : ℕ) (en : n ≡ digitsIn s) where
 
 -- ---- a line of the events
 
-timed-none : (x : Option ℕ) → octetsOf (timed x) ≡ []
+timed-none : (x : Option ℕ) → packetOctets (timed x) ≡ []
 timed-none none = refl
 timed-none (some k) = refl
 
@@ -93,7 +93,7 @@ module _ (l before : List ℕ) where
 
     pub is-write : (a v : ℕ) → fits (text "w ## ##") l ≡ true → a ≡ octetAt 2 l → v ≡ octetAt 5 l → Parses (eventOf l) before (Write a v) before
     unfolding formOf
-    is-write a v w ea ev = by (some (written a v)) (rw (w, ea, ev) refl) (record { says = refl; leaves = refl })
+    is-write a v w ea ev = by (some (writeEvent a v)) (rw (w, ea, ev) refl) (record { says = refl; leaves = refl })
 
     module _ (w : fits (text "w ## ##") l ≡ false) where
       pub is-read : (a : ℕ) → fits (text "r ##") l ≡ true → a ≡ octetAt 2 l → Parses (eventOf l) before (Read a) before

@@ -12,10 +12,11 @@ use borrow.Author.Tests.{leb-true}
 use lib.Dec.{leb}
 use lib.ListN.{length, drop, getD, drop-of-length-le}
 use lib.Seq.{drop-cons}
+use Rattle.text.specs.Put.{onto, valueOf}
 use Rattle.text.proofs.Chars.{and-left, and-right, in-range, below, above}
 use Rattle.script.specs.declared.parse.Number.{Number}
 use Rattle.script.specs.declared.parse.Number.the-variants.{Is, Not}
-use Rattle.script.specs.Text.{isDigit, allDigits, isDecimal, onto, valueOf, digitsIn}
+use Rattle.script.specs.Text.{isDigit, allDigits, isDecimal, digitsIn}
 use Rattle.script.specs.Parse.{countOf, counted}
 
 -- ---- too few or too many

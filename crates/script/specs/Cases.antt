@@ -5,12 +5,12 @@ use mathlib.Core.Bool.{true, false}
 use mathlib.Core.List.{[], _∷_}
 use mathlib.Core.Option.{none, some}
 use Rattle.text.specs.Ascii.{text}
-use Rattle.text.specs.Hex.{isHex, nibbleOf, octetOf, digitOf, hexOf}
-use Rattle.text.specs.Put.{decimalOf, spaced, octetsText}
+use Rattle.text.specs.Hex.{isHex, hexValue, octetOf, digitOf, hexOf}
+use Rattle.text.specs.Put.{decimalOf, onto, valueOf, spaced, octetsText}
 use Rattle.machine.specs.Events.{write, read, pass, hardReset, packet, done, value, no}
-use Rattle.script.specs.Text.{octetAt, suits, fits, isDigit, allDigits, isDecimal, onto, valueOf, digitsIn, isOctet, areOctets, octetsIn}
+use Rattle.script.specs.Text.{octetAt, suits, fits, isDigit, allDigits, isDecimal, digitsIn, isOctet, areOctets, octetsIn}
 use Rattle.script.specs.Parse.{countOf, kindPart, octetPart, packetOf, formOf, eventOf, setupOf}
-use Rattle.script.specs.Print.{replyText, outcomeText, badText}
+use Rattle.script.specs.Print.{replyText, outcomeText, badLineText}
 
 pub in-form :
     (countOf (text "2") ≡ some 2)
@@ -21,7 +21,7 @@ pub in-form :
     × (eventOf (text "h") ≡ some (hardReset 73))
     × (eventOf (text "p 0 12 AB") ≡ some (packet 73 0 (0x12 ∷ 0xAB ∷ [])))
     × (eventOf (text "p 12") ≡ some (packet 73 12 []))
-unfolding isHex nibbleOf octetOf octetAt suits fits isDigit allDigits isDecimal onto valueOf digitsIn isOctet areOctets octetsIn countOf kindPart octetPart packetOf formOf eventOf setupOf
+unfolding isHex hexValue octetOf octetAt suits fits isDigit allDigits isDecimal onto valueOf digitsIn isOctet areOctets octetsIn countOf kindPart octetPart packetOf formOf eventOf setupOf
 in-form = (refl, refl, refl, refl, refl, refl, refl, refl)
 
 pub out-of-form :
@@ -37,7 +37,7 @@ pub out-of-form :
     × (eventOf (text "p  0") ≡ none)
     × (eventOf (text "H") ≡ none)
     × (eventOf (text "") ≡ none)
-unfolding isHex nibbleOf octetOf octetAt suits fits isDigit allDigits isDecimal onto valueOf digitsIn isOctet areOctets octetsIn countOf kindPart octetPart packetOf formOf eventOf setupOf
+unfolding isHex hexValue octetOf octetAt suits fits isDigit allDigits isDecimal onto valueOf digitsIn isOctet areOctets octetsIn countOf kindPart octetPart packetOf formOf eventOf setupOf
 out-of-form = (refl, refl, refl, refl, refl, refl, refl, refl, refl, refl, refl, refl)
 
 pub printed :
@@ -45,6 +45,7 @@ pub printed :
     × (outcomeText done false (0x07 ∷ 0x07 ∷ 0x07 ∷ 0x19 ∷ []) ≡ text "ok 0 07 07 07 19\n")
     × (outcomeText (value 0x08) true [] ≡ text "=08 1 -\n")
     × (outcomeText (no 8) true [] ≡ text "no8 1 -\n")
-    × (badText 20000001 ≡ text "bad line 20000001\n")
-unfolding digitOf hexOf decimalOf replyText spaced octetsText outcomeText badText
-printed = (refl, refl, refl, refl, refl)
+    × (badLineText 20000001 ≡ text "bad line 20000001\n")
+    × (badLineText 4294967295 ≡ text "bad line 4294967295\n")
+unfolding digitOf hexOf decimalOf replyText spaced octetsText outcomeText badLineText
+printed = (refl, refl, refl, refl, refl, refl)

@@ -8,13 +8,14 @@ use Prim.Native.Nat.{ℕ, _<_}
 use lib.Dec.{leb}
 use lib.ListN.{length, take, drop}
 use Rattle.text.specs.Ascii.{text}
+use Rattle.text.specs.Put.{valueOf}
 use Rattle.line.specs.Write.{frameRoom}
 use Rattle.machine.specs.Events.{Event, write, read, pass, hardReset, packet}
 use Rattle.script.specs.declared.parse.Line.{Line}
 use Rattle.script.specs.declared.parse.Line.the-variants.{Write, Read, Time, HardReset, Packet, Bad}
 use Rattle.script.specs.declared.parse.Number.{Number}
 use Rattle.script.specs.declared.parse.Number.the-variants.{Is, Not}
-use Rattle.script.specs.Text.{fits, octetAt, isDecimal, valueOf, digitsIn, areOctets, octetsIn}
+use Rattle.script.specs.Text.{fits, octetAt, isDecimal, digitsIn, areOctets, octetsIn}
 
 -- ---- counts: a decimal
 
@@ -24,8 +25,8 @@ countOf l = cond (isDecimal l) (some (valueOf l)) none
 -- ---- events: each is lent room for one frame
 
 -- `w aa vv`
-abbrev pub written : ℕ → ℕ → Event
-written a v = write frameRoom a v
+abbrev pub writeEvent : ℕ → ℕ → Event
+writeEvent a v = write frameRoom a v
 
 -- what follows `t `: a decimal
 abbrev pub timed : Option ℕ → Option Event
@@ -50,7 +51,7 @@ packetOf l = heard (countOf (kindPart l)) (areOctets (octetPart l)) (octetsIn (o
 -- by its first letter
 unfoldable pub formOf : List ℕ → Option Event
 formOf l =
-    cond (fits (text "w ## ##") l) (some (written (octetAt 2 l) (octetAt 5 l)))
+    cond (fits (text "w ## ##") l) (some (writeEvent (octetAt 2 l) (octetAt 5 l)))
     (cond (fits (text "r ##") l) (some (read frameRoom (octetAt 2 l)))
     (cond (fits (text "h") l) (some (hardReset frameRoom))
     (cond (fits (text "t ") (take 2 l)) (timed (countOf (drop 2 l)))
@@ -62,7 +63,7 @@ eventOf l = cond (leb (length l) 255) (formOf l) none
 
 -- `aa vv`
 unfoldable pub setupOf : List ℕ → Option Event
-setupOf l = cond (fits (text "## ##") l) (some (written (octetAt 0 l) (octetAt 3 l))) none
+setupOf l = cond (fits (text "## ##") l) (some (writeEvent (octetAt 0 l) (octetAt 3 l))) none
 
 -- ---- answers
 
@@ -76,6 +77,11 @@ abbrev pub Few : Number → Type 0
 Few (Is n) = n < 10000000
 Few Not = Unit {0}
 
+-- the answer to a count
+pub record ReadsCount (l : List ℕ) (r : Number) : Type 0 where
+  pub says : counted r ≡ countOf l
+  pub few : Few r
+
 -- the answer that says an event, whose octets are lent beside it
 abbrev pub lineOf : Option Event → Line
 lineOf none = Bad
@@ -85,14 +91,18 @@ lineOf (some (pass r n)) = Time n
 lineOf (some (hardReset r)) = HardReset
 lineOf (some (packet r k m)) = Packet k (length m)
 
-abbrev pub octetsOf : Option Event → List ℕ
-octetsOf none = []
-octetsOf (some (write r a v)) = []
-octetsOf (some (read r a)) = []
-octetsOf (some (pass r n)) = []
-octetsOf (some (hardReset r)) = []
-octetsOf (some (packet r k m)) = m
+abbrev pub packetOctets : Option Event → List ℕ
+packetOctets none = []
+packetOctets (some (write r a v)) = []
+packetOctets (some (read r a)) = []
+packetOctets (some (pass r n)) = []
+packetOctets (some (hardReset r)) = []
+packetOctets (some (packet r k m)) = m
 
 pub record Parses (e : Option Event) (before : List ℕ) (r : Line) (after : List ℕ) : Type 0 where
   pub says : r ≡ lineOf e
-  pub leaves : after ≡ octetsOf e ++ drop (length (octetsOf e)) before
+  pub leaves : after ≡ packetOctets e ++ drop (length (packetOctets e)) before
+
+-- the answer to a line of the setup, which has no octets
+abbrev pub ParsesSetup : List ℕ → Line → Type 0
+ParsesSetup l r = r ≡ lineOf (setupOf l)

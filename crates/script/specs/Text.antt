@@ -2,7 +2,7 @@
 -- Assumes nothing.
 use mathlib.Core.Bool.{Bool, true, false, cond, _&&_}
 use mathlib.Core.List.{List, [], _∷_}
-use Prim.Native.Nat.{ℕ, suc, _+_, _*_, _-_}
+use Prim.Native.Nat.{ℕ, suc, _+_}
 use lib.Dec.{eqb}
 use lib.ListN.{length, getD}
 use Rattle.text.specs.Hex.{within, isHex, octetOf}
@@ -33,14 +33,6 @@ allDigits (c ∷ l) = isDigit c && allDigits l
 
 unfoldable pub isDecimal : List ℕ → Bool
 isDecimal l = within 1 7 (length l) && allDigits l
-
--- the number of the digits, after those of v
-unfoldable pub onto : ℕ → List ℕ → ℕ
-onto v [] = v
-onto v (c ∷ l) = onto (10 * v + (c - 48)) l
-
-unfoldable pub valueOf : List ℕ → ℕ
-valueOf l = onto 0 l
 
 -- how many digits a line begins with
 unfoldable pub digitsIn : List ℕ → ℕ

@@ -7,7 +7,7 @@ ghost use Prim.Native.Nat.{_+_, _*_, _-_, _≤_, _<_};
 ghost use lib.ListN.{length};
 ghost use lib.Seq.{sets};
 ghost use Rattle.script.specs.Text.{octetAt, suits, fits, isDigit, digitsIn, isOctet, areOctets, octetsIn};
-ghost use Rattle.script.specs.Parse.{countOf, timed, packetOf, eventOf, setupOf, counted, Few, lineOf, Parses};
+ghost use Rattle.script.specs.Parse.{countOf, timed, packetOf, eventOf, ReadsCount, lineOf, Parses, ParsesSetup};
 
 // What a line says; a packet's octets stand beside it, at the beginning of those lent.
 pub enum Line {
@@ -75,7 +75,7 @@ fn with_digit(v: u32, c: u8) -> u32
 
 // A count, a time or a kind: 1 to 7 digits.
 pub fn decimal(s: &[u8]) -> Number
-    ensures { λ r. ⌜ (counted r ≡ countOf (now (s .entry))) × Few r ⌝ }
+    ensures { λ r. ⌜ ReadsCount (now (s .entry)) r ⌝ }
 {
     if s.len() < 1 {
         return Number::Not;
@@ -137,7 +137,7 @@ fn are_octets(s: &[u8]) -> bool
 }
 
 // The octets, to the beginning of those lent. All are looked at before, so that a line out of form writes nothing.
-fn put_octets(s: &[u8], octets: &mut [u8]) -> usize
+fn store_octets(s: &[u8], octets: &mut [u8]) -> usize
     requires { ⌜ (areOctets (now s) ≡ true) × (length (now s) ≤ 3 * length (now octets)) ⌝ }
     ensures { λ r. ⌜ (r ≡ length (octetsIn (now (s .entry)))) × (now (octets .exit) ≡ sets (now (octets .entry)) 0 (octetsIn (now (s .entry)))) ⌝ }
 {
@@ -171,7 +171,7 @@ fn packet(s: &[u8], octets: &mut [u8]) -> Line
         Number::Is(kind) => {
             let rest = &s[n..];
             if are_octets(rest) {
-                let count = put_octets(rest, octets);
+                let count = store_octets(rest, octets);
                 return Line::Packet { kind, count };
             }
             Line::Bad
@@ -211,7 +211,7 @@ pub fn parse_event(line: &[u8], octets: &mut [u8; 84]) -> Line
 
 // A line of the setup, `aa vv`.
 pub fn parse_setup(line: &[u8]) -> Line
-    ensures { λ r. ⌜ r ≡ lineOf (setupOf (now (line .entry))) ⌝ }
+    ensures { λ r. ⌜ ParsesSetup (now (line .entry)) r ⌝ }
 {
     if fits(b"## ##", line) {
         return Line::Write(octet_at(line, 0), octet_at(line, 3));

@@ -7,17 +7,18 @@ use text::put::put_octet;
 use text::put::put_octets;
 use text::put::put_text;
 ghost use mathlib.Core.Path.{_≡_};
-ghost use mathlib.Core.Bool.{_&&_};
 ghost use Prim.Native.Nat.{_+_, _≤_};
-ghost use lib.Dec.{leb};
 ghost use lib.ListN.{length};
-ghost use Rattle.text.specs.Put.{Puts, hasRoom, Prints};
+ghost use Rattle.text.specs.Put.{Puts};
 ghost use Rattle.line.specs.Write.{frameRoom};
 ghost use Rattle.fusb302.specs.Serves.{replied};
-ghost use Rattle.script.specs.Print.{replyText, levelOf, outcomeText, badText, lineRoom};
+ghost use Rattle.script.specs.Print.{replyText, levelOf, outcomeText, badLineText, benchLineRoom, PrintsOutcome, PrintsBad};
 
 // Room for any line: `no255`, a space and the level, 73 symbols, LF.
-pub const LINE_ROOM: usize = 227;
+pub const BENCH_LINE_ROOM: usize = 227;
+
+// As many digits as any line number has.
+const LINE_DIGITS: usize = 10;
 
 // The most symbols that an event sends (01, 'Numbers of no', 12).
 const FRAME_ROOM: usize = 73;
@@ -47,7 +48,7 @@ fn level(high: bool) -> u8
 }
 
 fn put_outcome(reply: Reply, high: bool, symbols: &[u8], out: &mut [u8], at: usize) -> usize
-    requires { ⌜ (length (now symbols) ≤ frameRoom) × (at + lineRoom ≤ length (now out)) ⌝ }
+    requires { ⌜ (length (now symbols) ≤ frameRoom) × (at + benchLineRoom ≤ length (now out)) ⌝ }
     ensures { λ r. ⌜ Puts (now (out .entry)) at (outcomeText (replied reply) high (now (symbols .entry))) r (now (out .exit)) ⌝ }
 {
     let a = put_reply(reply, out, at);
@@ -58,22 +59,22 @@ fn put_outcome(reply: Reply, high: bool, symbols: &[u8], out: &mut [u8], at: usi
 }
 
 fn put_bad(line: u32, out: &mut [u8], at: usize) -> usize
-    requires { ⌜ at + lineRoom ≤ length (now out) ⌝ }
-    ensures { λ r. ⌜ Puts (now (out .entry)) at (badText line) r (now (out .exit)) ⌝ }
+    requires { ⌜ at + benchLineRoom ≤ length (now out) ⌝ }
+    ensures { λ r. ⌜ Puts (now (out .entry)) at (badLineText line) r (now (out .exit)) ⌝ }
 {
     let a = put_text(b"bad line ", out, at);
-    let b = put_decimal(line as usize, 8, out, a);
+    let b = put_decimal(line as usize, LINE_DIGITS, out, a);
     put(b'\n', out, b)
 }
 
 // Prints what came of a write or an event; nothing without room, nor with more symbols than any event sends.
 pub fn print_outcome(reply: Reply, high: bool, symbols: &[u8], out: &mut [u8], at: usize) -> usize
-    ensures { λ r. ⌜ Prints (leb (length (now (symbols .entry))) frameRoom && hasRoom lineRoom (now (out .entry)) at) (now (out .entry)) at (outcomeText (replied reply) high (now (symbols .entry))) r (now (out .exit)) ⌝ }
+    ensures { λ r. ⌜ PrintsOutcome (replied reply) high (now (symbols .entry)) (now (out .entry)) at r (now (out .exit)) ⌝ }
 {
     if symbols.len() > FRAME_ROOM {
         return at;
     }
-    if has_room(LINE_ROOM, out.len(), at) {
+    if has_room(BENCH_LINE_ROOM, out.len(), at) {
         return put_outcome(reply, high, symbols, out, at);
     }
     at
@@ -81,9 +82,9 @@ pub fn print_outcome(reply: Reply, high: bool, symbols: &[u8], out: &mut [u8], a
 
 // Prints that a line is out of form or missing; without room nothing.
 pub fn print_bad(line: u32, out: &mut [u8], at: usize) -> usize
-    ensures { λ r. ⌜ Prints (hasRoom lineRoom (now (out .entry)) at) (now (out .entry)) at (badText line) r (now (out .exit)) ⌝ }
+    ensures { λ r. ⌜ PrintsBad line (now (out .entry)) at r (now (out .exit)) ⌝ }
 {
-    if has_room(LINE_ROOM, out.len(), at) {
+    if has_room(BENCH_LINE_ROOM, out.len(), at) {
         return put_bad(line, out, at);
     }
     at

@@ -1,11 +1,12 @@
 // A program's standard input and output, in bounded memory: what is read and not yet taken, what is printed and not yet written.
+//
+// Proved is what each function leaves in memory; what a read or a write does outside is only run.
 use text::put::has_room;
 ghost use mathlib.Core.Path.{_≡_};
-ghost use mathlib.Core.Bool.{true, not, _&&_};
-ghost use Prim.Native.Nat.{_≤_};
-ghost use lib.ListN.{length};
+ghost use Prim.Native.Nat.{min, _≤_};
 ghost use Rattle.text.specs.Put.{hasRoom};
-ghost use Rattle.stream.specs.Ready.{Right, Ready, fresh, waits, Reads, Wrote, Makes, Fills};
+ghost use Rattle.stream.specs.Ready.{octetWaits};
+ghost use Rattle.stream.specs.Promises.{flushed, BeginsFresh, ReadsMore, WritesOut, MakesRoom, Fills, StepsTo};
 
 // What was read and not yet taken: the octets from at to end of the buffer.
 pub struct Input {
@@ -21,7 +22,7 @@ pub struct Stream {
 }
 
 pub fn begin() -> Stream
-    ensures { λ r. ⌜ r ≡ fresh ⌝ }
+    ensures { λ r. ⌜ BeginsFresh r ⌝ }
 {
     Stream {
         input: Input { at: 0, end: 0 },
@@ -30,10 +31,9 @@ pub fn begin() -> Stream
     }
 }
 
-// The input with an octet to take; with none, by one read, at its end or where reading fails.
+// The input as it stands if an octet is there to take; else what one read gives, which is none at its end or where reading fails.
 pub fn more(input: Input, buf: &mut [u8; 65536]) -> Input
-    requires { ⌜ Right input ⌝ }
-    ensures { λ r. ⌜ Right r × Reads (waits input) input (now (buf .entry)) r (now (buf .exit)) ⌝ }
+    ensures { λ r. ⌜ ReadsMore (octetWaits input) input (now (buf .entry)) r (now (buf .exit)) ⌝ }
 {
     if input.at < input.end {
         return input;
@@ -45,21 +45,35 @@ pub fn more(input: Input, buf: &mut [u8; 65536]) -> Input
     }
 }
 
-// Writes out what is printed; where that fails the run ends.
-pub fn written(mut s: Stream, out: &[u8]) -> Stream
-    requires { ⌜ Ready s × (length (now out) ≡ 65536) ⌝ }
-    ensures { λ r. ⌜ Ready r × Wrote s r ⌝ }
+// The stream behind a write: nothing counts as printed, and the run goes on if it did and the write went well.
+fn flush(s: Stream, went: bool) -> Stream
+    ensures { λ r. ⌜ r ≡ flushed s went ⌝ }
 {
-    let used = s.used;
-    s.on = io::write_all(1, &out[..used]);
-    s.used = 0;
-    s
+    Stream {
+        input: s.input,
+        used: 0,
+        on: if went { s.on } else { false },
+    }
 }
 
-// Writes out what is printed where `need` more do not fit behind it.
+fn least(a: usize, b: usize) -> usize
+    ensures { λ r. ⌜ (r ≡ min a b) × (r ≤ b) ⌝ }
+{
+    if a < b { a } else { b }
+}
+
+// Writes what is printed. That the octets go out, and that the run ends where they do not, is only run: the kit promises nothing of a write.
+pub fn written(s: Stream, out: &[u8]) -> Stream
+    ensures { λ r. ⌜ WritesOut s r ⌝ }
+{
+    let used = least(s.used, out.len());
+    let went = io::write_all(1, &out[..used]);
+    flush(s, went)
+}
+
+// As it stands if `need` more fit behind what is printed, else `written`.
 pub fn room(s: Stream, need: usize, out: &[u8]) -> Stream
-    requires { ⌜ Ready s × (need ≤ 65536) × (length (now out) ≡ 65536) ⌝ }
-    ensures { λ r. ⌜ Ready r × Makes (hasRoom need (now (out .entry)) (s .used)) s r × (hasRoom need (now (out .entry)) (r .used) ≡ true) ⌝ }
+    ensures { λ r. ⌜ MakesRoom (hasRoom need (now (out .entry)) (s .used)) s r ⌝ }
 {
     if has_room(need, out.len(), s.used) {
         return s;
@@ -67,10 +81,9 @@ pub fn room(s: Stream, need: usize, out: &[u8]) -> Stream
     written(s, out)
 }
 
-// The input with an octet to take. What is printed is written before more is read, so that nobody waits for it; where that fails nothing is read.
+// As it stands if an octet is there to take; else `written` and, where the run goes on, what one read gives. That the write comes first is only run.
 pub fn fill(s: Stream, buf: &mut [u8; 65536], out: &[u8]) -> Stream
-    requires { ⌜ Ready s × (length (now out) ≡ 65536) ⌝ }
-    ensures { λ r. ⌜ Ready r × Fills (waits (s .input)) s (now (buf .entry)) r (now (buf .exit)) ⌝ }
+    ensures { λ r. ⌜ Fills (octetWaits (s .input)) s (now (buf .entry)) r (now (buf .exit)) ⌝ }
 {
     let input = s.input;
     if input.at < input.end {
@@ -85,7 +98,7 @@ pub fn fill(s: Stream, buf: &mut [u8; 65536], out: &[u8]) -> Stream
 
 // The stream after a step that left this input, printed up to `used`, and perhaps ends the run.
 pub fn stepped(s: Stream, input: Input, used: usize, ends: bool) -> Stream
-    ensures { λ r. ⌜ r ≡ record { input = input; used = used; on = not ends && s .on } ⌝ }
+    ensures { λ r. ⌜ StepsTo s input used ends r ⌝ }
 {
     Stream {
         input,

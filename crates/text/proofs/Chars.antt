@@ -6,7 +6,7 @@ use Prim.Native.Nat.{ℕ, _-_, _<_, _≤_}
 use native.Mathlib.Omega.{arith}
 use borrow.Author.Tests.{le-leb, lt-leb}
 use lib.Dec.{leb, T}
-use Rattle.text.specs.Hex.{within, isHex, nibbleOf}
+use Rattle.text.specs.Hex.{within, isHex, hexValue}
 
 -- ---- both of two tests hold
 
@@ -34,24 +34,24 @@ above lo hi c h = simp (lt-leb c hi h) (and-false (leb lo c))
 module _ (c : ℕ) where
   pub record Worth (b : Bool) (n : ℕ) : Type 0 where
     pub hex : b ≡ isHex c
-    pub worth : n ≡ nibbleOf c
+    pub worth : n ≡ hexValue c
     pub few : n < 16
 
   pub digit : 48 ≤ c → c < 58 → Worth true (c - 48)
-  unfolding isHex nibbleOf
+  unfolding isHex hexValue
   digit h k =
       let e : within 48 57 c ≡ true = in-range 48 57 c h (omega arith) in
       record { hex = simp e; worth = simp e; few = omega arith }
 
   pub letter : 65 ≤ c → c < 71 → Worth true (c - 55)
-  unfolding isHex nibbleOf
+  unfolding isHex hexValue
   letter h k =
       let e : within 48 57 c ≡ false = above 48 57 c (omega arith) in
       let g : within 65 70 c ≡ true = in-range 65 70 c h (omega arith) in
       record { hex = simp (e, g); worth = simp (e, g); few = omega arith }
 
   other : within 48 57 c ≡ false → within 65 70 c ≡ false → Worth false 0
-  unfolding isHex nibbleOf
+  unfolding isHex hexValue
   other e g = record { hex = simp (e, g); worth = simp (e, g); few = omega arith }
 
   pub low : c < 48 → Worth false 0

@@ -13,7 +13,7 @@ use lib.ListN.{length, drop, set, getD, drop-of-length-le, length-append}
 use lib.Seq.{drop-cons, sets, length-sets}
 use Rattle.text.specs.Ascii.{text}
 use Rattle.text.specs.Hex.{digitOf, hexOf}
-use Rattle.text.specs.Put.{decimalOf, spaced, octetsText, Puts, Prints}
+use Rattle.text.specs.Put.{decimalOf, spaced, octetsText, Puts, hasRoom, Prints}
 
 sets-append : (l : List ℕ) (i : ℕ) (vs ws : List ℕ) → sets (sets l i vs) (i + length vs) ws ≡ sets l i (vs ++ ws)
 sets-append l i [] ws = rw add-zero refl
@@ -32,8 +32,28 @@ then {b} {m} {a} {t} {u} {at} {r} {q} x y =
     }
 
 -- the lent octets keep their length
-same : {b a t : List ℕ} {at r : ℕ} → Puts b at t r a → length a ≡ length b
+pub same : {b a t : List ℕ} {at r : ℕ} → Puts b at t r a → length a ≡ length b
 same {b} {a} {t} {at} x = ap length (x .stands) ∙ length-sets b at t
+
+-- ---- with room, and without
+
+pub printed : {x : Bool} {b a t : List ℕ} {at r : ℕ} → x ≡ true → Puts b at t r a → Prints x b at t r a
+printed e p = record { puts = rw e p }
+
+pub not-printed : {x : Bool} (b t : List ℕ) (at : ℕ) → x ≡ false → Prints x b at t at b
+not-printed b t at e = record { puts = rw e (nothing b at) }
+
+-- whoever knows of the room has the text whole
+pub is-printed : {x : Bool} {b a t : List ℕ} {at r : ℕ} → x ≡ true → Prints x b at t r a → Puts b at t r a
+is-printed e p = rw e at (p .puts)
+
+pub roomed : {b a t : List ℕ} {at r : ℕ} (need : ℕ) → at + need ≤ length b → Prints (hasRoom need b at) b at t r a → Puts b at t r a
+roomed {b} {a} {t} {at} need h p = is-printed (le-leb (at + need) (length b) h) p
+
+-- what is printed ends inside, if the text fits where it is printed
+pub ends-inside : (x : Bool) {b a t : List ℕ} {at r : ℕ} → at ≤ length b → (x ≡ true → at + length t ≤ length b) → Prints x b at t r a → r ≤ length b
+ends-inside true h fits p = let n = p .puts .next in let k = fits refl in omega arith
+ends-inside false h fits p = let n = p .puts .next in omega arith
 
 -- ---- an octet
 
@@ -129,15 +149,28 @@ module _ (before symbols : List ℕ) (at : ℕ) (out : List ℕ) (o i : ℕ) (st
       let l = long symbols in
       record { next = omega arith; stands = rw (drop-of-length-le symbols h) at (st .stores) }
 
-pub no-octets : (l before after : List ℕ) (at r : ℕ) → length l ≡ 0 → Puts before at (text " -") r after → Puts before at (octetsText l) r after
+spaced-text : (l : List ℕ) → (length l ≡ 0 → ⊥) → octetsText l ≡ spaced l
+unfolding octetsText
+spaced-text [] z = absurd (z refl)
+spaced-text (s ∷ l) z = refl
+
+pub no-octets : (l before after : List ℕ) (at r : ℕ) → length l ≡ 0 → Prints (hasRoom 2 before at) before at (text " -") r after
+    → Prints (hasRoom (length (octetsText l)) before at) before at (octetsText l) r after
 unfolding octetsText
 no-octets [] before after at r e p = p
 no-octets (s ∷ l) before after at r e p = absurd (omega arith)
 
-pub some-octets : (l before after : List ℕ) (at r : ℕ) → (length l ≡ 0 → ⊥) → Puts before at (spaced l) r after → Puts before at (octetsText l) r after
-unfolding octetsText
-some-octets [] before after at r e p = absurd (e refl)
-some-octets (s ∷ l) before after at r e p = p
+-- the room of octets, one or more
+spaced-room : (l before : List ℕ) (at : ℕ) → (length l ≡ 0 → ⊥) → hasRoom (length (octetsText l)) before at ≡ leb (at + 3 * length l) (length before)
+spaced-room l before at z = ap (λ (n : ℕ). leb (at + n) (length before)) (ap length (spaced-text l z) ∙ long l)
+
+pub some-octets : (l before after : List ℕ) (at r : ℕ) → (length l ≡ 0 → ⊥) → leb (at + 3 * length l) (length before) ≡ true → Puts before at (spaced l) r after
+    → Prints (hasRoom (length (octetsText l)) before at) before at (octetsText l) r after
+some-octets l before after at r z e p = printed (spaced-room l before at z ∙ e) (rw (spaced-text l z) p)
+
+pub octets-unput : (l before : List ℕ) (at : ℕ) → (length l ≡ 0 → ⊥) → leb (at + 3 * length l) (length before) ≡ false
+    → Prints (hasRoom (length (octetsText l)) before at) before at (octetsText l) at before
+octets-unput l before at z e = not-printed before (octetsText l) at (spaced-room l before at z ∙ e)
 
 -- a list of so many octets, one or more, has room for ` -` too
 pub octets-long : (n : ℕ) (l : List ℕ) → length l ≤ suc n → length (octetsText l) ≤ 3 * suc n
@@ -145,17 +178,8 @@ unfolding octetsText
 octets-long n [] h = omega arith
 octets-long n (s ∷ l) h = let k = long (s ∷ l) in omega arith
 
--- ---- with room, and without
+-- ---- the code's test, which no sum can overflow
 
-pub printed : {x : Bool} {b a t : List ℕ} {at r : ℕ} → x ≡ true → Puts b at t r a → Prints x b at t r a
-unfolding Prints
-printed e p = rw e p
-
-pub not-printed : {x : Bool} (b t : List ℕ) (at : ℕ) → x ≡ false → Prints x b at t at b
-unfolding Prints
-not-printed b t at e = rw e (refl, refl)
-
--- the code's test, which no sum can overflow
 pub room-test : (need n at : ℕ) → need ≤ n → leb at (n - need) ≡ leb (at + need) n
 room-test need n at h = go (leb at (n - need)) refl
   where

@@ -1,9 +1,9 @@
 -- Texts, and where they are put.
 -- Assumes nothing.
 use mathlib.Core.Path.{_≡_}
-use mathlib.Core.Bool.{Bool, true, false, cond}
+use mathlib.Core.Bool.{Bool, cond}
 use mathlib.Core.List.{List, [], _∷_, _++_}
-use Prim.Native.Nat.{ℕ, zero, suc, _+_, _/_, _%_}
+use Prim.Native.Nat.{ℕ, zero, suc, _+_, _*_, _-_, _/_, _%_}
 use lib.Dec.{ltb, leb}
 use lib.ListN.{length}
 use lib.Seq.{sets}
@@ -14,6 +14,14 @@ use Rattle.text.specs.Hex.{hexOf}
 unfoldable pub decimalOf : ℕ → ℕ → List ℕ
 decimalOf zero n = []
 decimalOf (suc k) n = cond (ltb n 10) ((48 + n) ∷ []) (decimalOf k (n / 10) ++ ((48 + n % 10) ∷ []))
+
+-- the number that digits write, behind those of v
+unfoldable pub onto : ℕ → List ℕ → ℕ
+onto v [] = v
+onto v (c ∷ l) = onto (10 * v + (c - 48)) l
+
+unfoldable pub valueOf : List ℕ → ℕ
+valueOf l = onto 0 l
 
 -- a space and two digits for each octet
 unfoldable pub spaced : List ℕ → List ℕ
@@ -34,7 +42,10 @@ pub record Puts (before : List ℕ) (at : ℕ) (t : List ℕ) (r : ℕ) (after :
 abbrev pub hasRoom : ℕ → List ℕ → ℕ → Bool
 hasRoom need before at = leb (at + need) (length before)
 
--- a whole text, or, where it need not fit, nothing
-unfoldable pub Prints : Bool → List ℕ → ℕ → List ℕ → ℕ → List ℕ → Type 0
-Prints true before at t r after = Puts before at t r after
-Prints false before at t r after = (r ≡ at) × (after ≡ before)
+-- the same of so many octets, as an answer tells it
+abbrev pub TellsRoom : ℕ → ℕ → ℕ → Bool → Type 0
+TellsRoom need octets at r = r ≡ leb (at + need) octets
+
+-- a whole text, or, where it need not fit, none
+pub record Prints (fits : Bool) (before : List ℕ) (at : ℕ) (t : List ℕ) (r : ℕ) (after : List ℕ) : Type 0 where
+  pub puts : Puts before at (cond fits t []) r after

@@ -1,10 +1,10 @@
 // Hex of two capital digits (01, 'On the bench table').
 ghost use mathlib.Core.Path.{_≡_};
 ghost use Prim.Native.Nat.{_<_};
-ghost use Rattle.text.specs.Hex.{isHex, nibbleOf, octetOf, digitOf};
+ghost use Rattle.text.specs.Hex.{hexValue, digitOf, TellsHex, MakesOctet};
 
 pub fn is_hex(c: u8) -> bool
-    ensures { λ r. ⌜ r ≡ isHex c ⌝ }
+    ensures { λ r. ⌜ TellsHex c r ⌝ }
 {
     match c {
         b'0'..=b'9' => true,
@@ -14,8 +14,8 @@ pub fn is_hex(c: u8) -> bool
 }
 
 // The value of a hex digit, and 0 of any other character.
-fn nibble(c: u8) -> u8
-    ensures { λ r. ⌜ (r ≡ nibbleOf c) × (r < 16) ⌝ }
+fn hex_value(c: u8) -> u8
+    ensures { λ r. ⌜ (r ≡ hexValue c) × (r < 16) ⌝ }
 {
     match c {
         b'0'..=b'9' => c - 48,
@@ -26,9 +26,9 @@ fn nibble(c: u8) -> u8
 
 // The octet that two characters write.
 pub fn octet_of(a: u8, b: u8) -> u8
-    ensures { λ r. ⌜ r ≡ octetOf a b ⌝ }
+    ensures { λ r. ⌜ MakesOctet a b r ⌝ }
 {
-    16 * nibble(a) + nibble(b)
+    16 * hex_value(a) + hex_value(b)
 }
 
 // The hex digit of a value.

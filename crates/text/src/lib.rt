@@ -1,5 +1,6 @@
 // What the programs' texts are made of: hex of two capital digits, decimals, and texts put one behind the other.
 //
-// A function that puts asks for the room it takes; `has_room` is the test to make first.
+// What is put stands whole or, without room, not at all; `has_room` tells which.
 pub mod hex;
+mod lay;
 pub mod put;

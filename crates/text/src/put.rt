@@ -1,16 +1,20 @@
-// Texts put into lent octets: each function puts its own from `at` on and answers the place behind it.
-use crate::hex::digit;
+// Texts put into lent octets: each function puts its own from `at` on and answers the place behind it; without room it puts nothing and answers `at`.
+use crate::lay::lay;
+use crate::lay::lay_decimal;
+use crate::lay::lay_octet;
+use crate::lay::lay_spaced;
+use crate::lay::lay_text;
 ghost use mathlib.Core.Path.{_≡_};
 ghost use mathlib.Core.List.{[], _∷_};
-ghost use Prim.Native.Nat.{_+_, _*_, _≤_, _<_};
+ghost use Prim.Native.Nat.{_+_, _*_};
 ghost use lib.Dec.{leb};
 ghost use lib.ListN.{length};
 ghost use Rattle.text.specs.Hex.{hexOf};
-ghost use Rattle.text.specs.Put.{decimalOf, spaced, octetsText, Puts};
+ghost use Rattle.text.specs.Put.{decimalOf, octetsText, hasRoom, TellsRoom, Prints};
 
 // Whether `need` more have room behind `at`, in so many octets.
 pub fn has_room(need: usize, octets: usize, at: usize) -> bool
-    ensures { λ r. ⌜ r ≡ leb (at + need) octets ⌝ }
+    ensures { λ r. ⌜ TellsRoom need octets at r ⌝ }
 {
     if octets < need {
         return false;
@@ -19,77 +23,61 @@ pub fn has_room(need: usize, octets: usize, at: usize) -> bool
 }
 
 pub fn put(b: u8, out: &mut [u8], at: usize) -> usize
-    requires { ⌜ at < length (now out) ⌝ }
-    ensures { λ r. ⌜ Puts (now (out .entry)) at (b ∷ []) r (now (out .exit)) ⌝ }
+    ensures { λ r. ⌜ Prints (hasRoom 1 (now (out .entry)) at) (now (out .entry)) at (b ∷ []) r (now (out .exit)) ⌝ }
 {
-    out[at] = b;
-    at + 1
+    if has_room(1, out.len(), at) {
+        return lay(b, out, at);
+    }
+    at
 }
 
 pub fn put_octet(b: u8, out: &mut [u8], at: usize) -> usize
-    requires { ⌜ at + 2 ≤ length (now out) ⌝ }
-    ensures { λ r. ⌜ Puts (now (out .entry)) at (hexOf b) r (now (out .exit)) ⌝ }
+    ensures { λ r. ⌜ Prints (hasRoom 2 (now (out .entry)) at) (now (out .entry)) at (hexOf b) r (now (out .exit)) ⌝ }
 {
-    out[at] = digit(b / 16);
-    out[at + 1] = digit(b % 16);
-    at + 2
+    if has_room(2, out.len(), at) {
+        return lay_octet(b, out, at);
+    }
+    at
 }
 
 pub fn put_text(text: &[u8], out: &mut [u8], at: usize) -> usize
-    requires { ⌜ at + length (now text) ≤ length (now out) ⌝ }
-    ensures { λ r. ⌜ Puts (now (out .entry)) at (now (text .entry)) r (now (out .exit)) ⌝ }
+    ensures { λ r. ⌜ Prints (hasRoom (length (now (text .entry))) (now (out .entry)) at) (now (out .entry)) at (now (text .entry)) r (now (out .exit)) ⌝ }
 {
-    let mut i = 0;
-    while i < text.len() {
-        out[at + i] = text[i];
-        i += 1;
+    if has_room(text.len(), out.len(), at) {
+        return lay_text(text, out, at);
     }
-    at + i
+    at
 }
 
-// A number of at most so many digits.
+// A number of at most so many digits, for all of which there has to be room.
 pub fn put_decimal(n: usize, most: usize, out: &mut [u8], at: usize) -> usize
-    requires { ⌜ at + most ≤ length (now out) ⌝ }
-    ensures { λ r. ⌜ Puts (now (out .entry)) at (decimalOf most n) r (now (out .exit)) ⌝ }
+    ensures { λ r. ⌜ Prints (hasRoom most (now (out .entry)) at) (now (out .entry)) at (decimalOf most n) r (now (out .exit)) ⌝ }
 {
-    if most == 0 {
-        return at;
+    if has_room(most, out.len(), at) {
+        return lay_decimal(n, most, out, at);
     }
-    if n < 10 {
-        return put(48 + (n as u8), out, at);
-    }
-    let last = put_decimal(n / 10, most - 1, out, at);
-    put(48 + ((n % 10) as u8), out, last)
+    at
 }
 
-fn put_symbol(symbol: u8, out: &mut [u8], at: usize) -> usize
-    requires { ⌜ at + 3 ≤ length (now out) ⌝ }
-    ensures { λ r. ⌜ Puts (now (out .entry)) at (0x20 ∷ hexOf symbol) r (now (out .exit)) ⌝ }
+// Whether three times so many have room: by division first, since the product need not fit.
+fn has_room_thrice(count: usize, octets: usize, at: usize) -> bool
+    ensures { λ r. ⌜ r ≡ leb (at + 3 * count) octets ⌝ }
 {
-    let next = put(b' ', out, at);
-    put_octet(symbol, out, next)
-}
-
-fn put_spaced(octets: &[u8], out: &mut [u8], at: usize) -> usize
-    requires { ⌜ at + 3 * length (now octets) ≤ length (now out) ⌝ }
-    ensures { λ r. ⌜ Puts (now (out .entry)) at (spaced (now (octets .entry))) r (now (out .exit)) ⌝ }
-{
-    let mut next = at;
-    let mut i = 0;
-    while i < octets.len() {
-        next = put_symbol(octets[i], out, next);
-        i += 1;
+    if octets / 3 < count {
+        return false;
     }
-    next
+    has_room(3 * count, octets, at)
 }
 
 // A space and two digits for each octet, or ` -` for none.
 pub fn put_octets(octets: &[u8], out: &mut [u8], at: usize) -> usize
-    requires { ⌜ (at + 2 ≤ length (now out)) × (at + 3 * length (now octets) ≤ length (now out)) ⌝ }
-    ensures { λ r. ⌜ Puts (now (out .entry)) at (octetsText (now (octets .entry))) r (now (out .exit)) ⌝ }
+    ensures { λ r. ⌜ Prints (hasRoom (length (octetsText (now (octets .entry)))) (now (out .entry)) at) (now (out .entry)) at (octetsText (now (octets .entry))) r (now (out .exit)) ⌝ }
 {
     if octets.len() == 0 {
         return put_text(b" -", out, at);
     }
-    put_spaced(octets, out, at)
+    if has_room_thrice(octets.len(), out.len(), at) {
+        return lay_spaced(octets, out, at);
+    }
+    at
 }

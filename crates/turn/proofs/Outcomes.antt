@@ -4,11 +4,11 @@ use mathlib.Core.Path.{_≡_, sym, ap, _∙_}
 use mathlib.Core.Bool.{true, false}
 use Rattle.fusb302.specs.View.{view}
 use Rattle.turn.specs.declared.Turned.{Turned}
-use Rattle.turn.specs.Turn.{Lent, Takes}
+use Rattle.turn.specs.Turn.{Lent, TakesLine}
 use Rattle.turn.specs.Theorems.{OneTurn}
 
 pub one-turn : OneTurn
-unfolding Takes
+unfolding TakesLine
 one-turn true d e number before at r s a b p q =
     let x = p .acts in
     let y = q .acts in

@@ -11,8 +11,8 @@ use lib.Dec.{leb}
 use lib.ListN.{length, take, drop, length-append}
 use lib.Seq.{take-at, length-take-le}
 use Rattle.text.specs.Ascii.{text}
-use Rattle.text.specs.Put.{hasRoom, Puts, Prints}
-use Rattle.text.proofs.Texts.{few, octets-long}
+use Rattle.text.specs.Put.{hasRoom, Puts}
+use Rattle.text.proofs.Texts.{few, octets-long, is-printed, ends-inside}
 use Rattle.line.specs.Frame.{joined}
 use Rattle.line.specs.Write.{frameRoom}
 use Rattle.machine.specs.Status.{intLow}
@@ -28,11 +28,11 @@ use Rattle.fusb302.proofs.Serving.{served-symbols}
 use Rattle.script.specs.declared.parse.Line.{Line}
 use Rattle.script.specs.declared.parse.Line.the-variants.{Write, Read, Time, HardReset, Packet, Bad}
 use Rattle.script.specs.Text.{fits, octetAt, areOctets, octetsIn}
-use Rattle.script.specs.Parse.{countOf, written, timed, octetPart, kindPart, heard, packetOf, formOf, eventOf, setupOf, lineOf, Parses}
-use Rattle.script.specs.Print.{outcomeText, badText, lineRoom}
+use Rattle.script.specs.Parse.{countOf, writeEvent, timed, octetPart, kindPart, heard, packetOf, formOf, eventOf, setupOf, lineOf, Parses}
+use Rattle.script.specs.Print.{outcomeText, badLineText, benchLineRoom, PrintsOutcome, PrintsBad}
 use Rattle.script.proofs.Texts.{short}
 use Rattle.turn.specs.declared.Turned.{Turned}
-use Rattle.turn.specs.Turn.{meantBy, missing, leftBy, sentBy, shown, textOf, Takes, Lent, eventFor, heardOf, isBad, Steps, Acts}
+use Rattle.turn.specs.Turn.{meantBy, missing, leftBy, sentBy, resultText, textOf, TakesLine, Lent, eventFor, heardOf, isBad, ServesLine, Acts}
 
 -- ---- a line's event is lent room for one frame
 
@@ -103,40 +103,40 @@ pub setup-parses : (l before : List ℕ) (r : Line) → r ≡ lineOf (setupOf l)
 unfolding setupOf
 setup-parses l before r e = go (fits (text "## ##") l) e
   where
-    go : (b : Bool) → r ≡ lineOf (cond b (some (written (octetAt 0 l) (octetAt 3 l))) none)
-        → Parses (cond b (some (written (octetAt 0 l) (octetAt 3 l))) none) before r before
+    go : (b : Bool) → r ≡ lineOf (cond b (some (writeEvent (octetAt 0 l) (octetAt 3 l))) none)
+        → Parses (cond b (some (writeEvent (octetAt 0 l) (octetAt 3 l))) none) before r before
     go true e = record { says = e; leaves = refl }
     go false e = record { says = e; leaves = refl }
 
 -- ---- the device serves it
 
 module _ (d : Device) (line : Line) (os before : List ℕ) (long : length before ≡ 73) (r : Outcome) (after : List ℕ) where
-  as-is : (f : Line) → line ≡ f → Steps (eventFor f os) d before r after → Steps (eventFor line os) d before r after
-  as-is f e h = subst (λ (x : Line). Steps (eventFor x os) d before r after) (sym e) h
+  as-is : (f : Line) → line ≡ f → ServesLine (eventFor f os) d before r after → ServesLine (eventFor line os) d before r after
+  as-is f e h = subst (λ (x : Line). ServesLine (eventFor x os) d before r after) (sym e) h
 
   lent : (f : ℕ → Event) → Serves (f (length before)) d before r after → Serves (f 73) d before r after
   lent f h = subst (λ (n : ℕ). Serves (f n) d before r after) long h
 
-  pub serves-write : (a v : ℕ) → line ≡ Write a v → Serves (write (length before) a v) d before r after → Steps (eventFor line os) d before r after
+  pub serves-write : (a v : ℕ) → line ≡ Write a v → Serves (write (length before) a v) d before r after → ServesLine (eventFor line os) d before r after
   serves-write a v e h = as-is (Write a v) e (lent (λ n. write n a v) h)
 
-  pub serves-read : (a : ℕ) → line ≡ Read a → Serves (read (length before) a) d before r after → Steps (eventFor line os) d before r after
+  pub serves-read : (a : ℕ) → line ≡ Read a → Serves (read (length before) a) d before r after → ServesLine (eventFor line os) d before r after
   serves-read a e h = as-is (Read a) e (lent (λ n. read n a) h)
 
-  pub serves-pass : (t : ℕ) → line ≡ Time t → Serves (pass (length before) t) d before r after → Steps (eventFor line os) d before r after
+  pub serves-pass : (t : ℕ) → line ≡ Time t → Serves (pass (length before) t) d before r after → ServesLine (eventFor line os) d before r after
   serves-pass t e h = as-is (Time t) e (lent (λ n. pass n t) h)
 
-  pub serves-reset : line ≡ HardReset → Serves (hardReset (length before)) d before r after → Steps (eventFor line os) d before r after
+  pub serves-reset : line ≡ HardReset → Serves (hardReset (length before)) d before r after → ServesLine (eventFor line os) d before r after
   serves-reset e h = as-is HardReset e (lent (λ n. hardReset n) h)
 
   pub serves-packet : (k n : ℕ) → line ≡ Packet k n → Serves (packet (length before) k (take n os)) d before r after
-      → Steps (eventFor line os) d before r after
+      → ServesLine (eventFor line os) d before r after
   serves-packet k n e h = as-is (Packet k n) e (lent (λ x. packet x k (take n os)) h)
 
 pub serves-none : (d : Device) (line : Line) (os before : List ℕ) → line ≡ Bad
-    → Steps (eventFor line os) d before (record { device = d; reply = Done; count = 0 }) before
+    → ServesLine (eventFor line os) d before (record { device = d; reply = Done; count = 0 }) before
 serves-none d line os before e =
-    subst (λ (x : Line). Steps (eventFor x os) d before (record { device = d; reply = Done; count = 0 }) before) (sym e) (refl, refl)
+    subst (λ (x : Line). ServesLine (eventFor x os) d before (record { device = d; reply = Done; count = 0 }) before) (sym e) (refl, refl)
 
 pub heard-within : (line : Line) (k n : ℕ) (os : List ℕ) → line ≡ Packet k n → heardOf line ≤ length os → n ≤ length os
 heard-within line k n os e h = rw e at h
@@ -163,46 +163,46 @@ module _ (d : Device) (e : Event) (before : List ℕ) (r : Outcome) (after : Lis
   counts long = let m = sent-fits (joined (step (view d) e .frames)) before after (serves .lent) long in let n = serves .count in omega arith
 
 module _ (line : Line) (os : List ℕ) (d : Device) (before : List ℕ) (r : Outcome) (after : List ℕ) where
-  pub steps-ask : Asks d → Steps (eventFor line os) d before r after → Asks (r .device)
+  pub steps-ask : Asks d → ServesLine (eventFor line os) d before r after → Asks (r .device)
   steps-ask asks = go (eventFor line os)
     where
-      go : (x : Option Event) → Steps x d before r after → Asks (r .device)
+      go : (x : Option Event) → ServesLine x d before r after → Asks (r .device)
       go none h = rw (h .0) asks
       go (some e) h = h .asks
 
-  pub steps-count : length after ≡ length before → Steps (eventFor line os) d before r after → r .count ≤ length after
+  pub steps-count : length after ≡ length before → ServesLine (eventFor line os) d before r after → r .count ≤ length after
   steps-count long = go (eventFor line os)
     where
-      go : (x : Option Event) → Steps x d before r after → r .count ≤ length after
+      go : (x : Option Event) → ServesLine x d before r after → r .count ≤ length after
       go none h = rw (h .0) (omega arith)
       go (some e) h = let n = counts d e before r after h long in omega arith
 
 -- ---- any line of text has room
 
-outcome-few : (r : Reply) (high : Bool) (l : List ℕ) → length l ≤ frameRoom → length (outcomeText r high l) ≤ lineRoom
+outcome-few : (r : Reply) (high : Bool) (l : List ℕ) → length l ≤ frameRoom → length (outcomeText r high l) ≤ benchLineRoom
 unfolding outcomeText
 outcome-few r high l h =
     let a = short r in
     let b = octets-long 72 l h in
     simp length-append (omega arith)
 
-bad-few : (n : ℕ) → length (badText n) ≤ lineRoom
-unfolding badText
-bad-few n = let a = few 8 n in simp length-append (omega arith)
+bad-few : (n : ℕ) → length (badLineText n) ≤ benchLineRoom
+unfolding badLineText
+bad-few n = let a = few 10 n in simp length-append (omega arith)
 
 -- ---- a parsed line whole
 
-module _ (d : Device) (line : Line) (number : ℕ) (os symbols out : List ℕ) (at : ℕ) (roomy : hasRoom lineRoom out at ≡ true) (end : ℕ) (out′ : List ℕ) where
-  behind : at + lineRoom ≤ length out
-  behind = leb-true (at + lineRoom) (length out) roomy
+module _ (d : Device) (line : Line) (number : ℕ) (os symbols out : List ℕ) (at : ℕ) (roomy : hasRoom benchLineRoom out at ≡ true) (end : ℕ) (out′ : List ℕ) where
+  behind : at + benchLineRoom ≤ length out
+  behind = leb-true (at + benchLineRoom) (length out) roomy
 
-  pub acts-bad : Asks d → isBad line ≡ true → Prints (hasRoom lineRoom out at) out at (badText number) end out′
+  pub acts-bad : Asks d → isBad line ≡ true → PrintsBad number out at end out′
       → Acts d (eventFor line os) number symbols out at (record { device = d; ends = true; at = end }) symbols out′
-  unfolding Prints textOf leftBy sentBy joined
+  unfolding textOf leftBy sentBy joined
   acts-bad asks bad p = go (eventFor line os) (missing-is line os ∙ bad)
     where
-      printed : Puts out at (badText number) end out′
-      printed = subst (λ (b : Bool). Prints b out at (badText number) end out′) roomy p
+      printed : Puts out at (badLineText number) end out′
+      printed = is-printed roomy p
 
       go : (o : Option Event) → missing o ≡ true → Acts d o number symbols out at (record { device = d; ends = true; at = end }) symbols out′
       go (some e) m = absurd (true≢false (sym m))
@@ -217,22 +217,20 @@ module _ (d : Device) (line : Line) (number : ℕ) (os symbols out : List ℕ) (
           }
 
   module _ (symbols′ : List ℕ) (o : Outcome) (lent : length symbols ≡ 73) (kept : length symbols′ ≡ 73) (high : Bool) (level : high ≡ not (intLow (view (o .device)))) where
-    pub acts-done : isBad line ≡ false → Steps (eventFor line os) d symbols o symbols′
-        → Prints (leb (length (take (o .count) symbols′)) frameRoom && hasRoom lineRoom out at) out at (outcomeText (replied (o .reply)) high (take (o .count) symbols′)) end out′
+    pub acts-done : isBad line ≡ false → ServesLine (eventFor line os) d symbols o symbols′
+        → PrintsOutcome (replied (o .reply)) high (take (o .count) symbols′) out at end out′
         → Acts d (eventFor line os) number symbols out at (record { device = o .device; ends = false; at = end }) symbols′ out′
-    unfolding Prints textOf leftBy sentBy shown
+    unfolding textOf leftBy sentBy resultText
     acts-done good steps p = go (eventFor line os) (missing-is line os ∙ good) steps
       where
-        go : (x : Option Event) → missing x ≡ false → Steps x d symbols o symbols′
+        go : (x : Option Event) → missing x ≡ false → ServesLine x d symbols o symbols′
             → Acts d x number symbols out at (record { device = o .device; ends = false; at = end }) symbols′ out′
         go none m h = absurd (true≢false m)
         go (some e) m h =
             let few = counts d e symbols o symbols′ h (kept ∙ sym lent) in
             let long = length-take-le (o .count) symbols′ (omega arith) in
             let fine = le-leb (length (take (o .count) symbols′)) frameRoom (omega arith) in
-            let printed : Puts out at (outcomeText (replied (o .reply)) high (take (o .count) symbols′)) end out′ =
-            subst (λ (b : Bool). Prints b out at (outcomeText (replied (o .reply)) high (take (o .count) symbols′)) end out′)
-            (ap₂ (λ (a b : Bool). a && b) fine roomy) p in
+            let printed = is-printed (ap₂ (λ (a b : Bool). a && b) fine roomy) p in
             record {
               ends = refl;
               state = h .state;
@@ -256,15 +254,15 @@ module _ (d : Device) (line : Line) (number : ℕ) (os symbols out : List ℕ) (
 -- ---- the whole line
 
 pub takes-none : {b : Bool} (d : Device) (e : Option Event) (number : ℕ) (before : Lent) (at : ℕ) → b ≡ false
-    → Takes b d e number before at (record { device = d; ends = true; at = at }) before
-unfolding Takes
+    → TakesLine b d e number before at (record { device = d; ends = true; at = at }) before
+unfolding TakesLine
 takes-none d e number before at h = rw h (refl, refl)
 
 pub takes-line : {b : Bool} (d : Device) (setup : Bool) (l : List ℕ) (number : ℕ) (before : Lent) (at : ℕ) (meant : Line) (r : Turned) (after : Lent)
     → b ≡ true → Parses (meantBy setup l) (before .octets) meant (after .octets)
     → Acts d (eventFor meant (after .octets)) number (before .symbols) (before .out) at r (after .symbols) (after .out)
-    → Takes b d (meantBy setup l) number before at r after
-unfolding Takes
+    → TakesLine b d (meantBy setup l) number before at r after
+unfolding TakesLine
 takes-line d setup l number before at meant r after roomy p x =
     let is = parsed-event setup l (before .octets) meant (after .octets) p in
     let acts = subst (λ (e : Option Event). Acts d e number (before .symbols) (before .out) at r (after .symbols) (after .out)) is x in
@@ -272,25 +270,17 @@ takes-line d setup l number before at meant r after roomy p x =
 
 -- ---- what was printed lies in what was lent
 
-pub bad-within : (out : List ℕ) (at n r : ℕ) (out′ : List ℕ) → at ≤ length out → Prints (hasRoom lineRoom out at) out at (badText n) r out′ → r ≤ length out
-unfolding Prints
-bad-within out at n r out′ h = go (hasRoom lineRoom out at) refl
-  where
-    go : (b : Bool) → hasRoom lineRoom out at ≡ b → Prints b out at (badText n) r out′ → r ≤ length out
-    go true e p =
-        let k = leb-true (at + lineRoom) (length out) e in
-        let m = p .next in
-        let f = bad-few n in
-        omega arith
-    go false e p = let m = p .0 in omega arith
+pub bad-within : (out : List ℕ) (at n r : ℕ) (out′ : List ℕ) → at ≤ length out → PrintsBad n out at r out′ → r ≤ length out
+bad-within out at n r out′ h p =
+    ends-inside (hasRoom benchLineRoom out at) h (λ e. omega (arith, leb-true (at + benchLineRoom) (length out) e, bad-few n)) p
 
 module _ (d : Device) (e : Option Event) (number : ℕ) (before : Lent) (at : ℕ) (r : Turned) (after : Lent) where
-  pub turn-asks : (b : Bool) → Asks d → Takes b d e number before at r after → Asks (r .device)
-  unfolding Takes
+  pub turn-asks : (b : Bool) → Asks d → TakesLine b d e number before at r after → Asks (r .device)
+  unfolding TakesLine
   turn-asks true asks h = h .acts .asks
   turn-asks false asks h = rw (h .0) asks
 
-  pub turn-within : (b : Bool) → at ≤ length (before .out) → Takes b d e number before at r after → r .at ≤ length (before .out)
-  unfolding Takes
+  pub turn-within : (b : Bool) → at ≤ length (before .out) → TakesLine b d e number before at r after → r .at ≤ length (before .out)
+  unfolding TakesLine
   turn-within true h t = t .acts .fits
   turn-within false h t = rw (t .0) h

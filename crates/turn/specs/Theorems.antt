@@ -8,10 +8,10 @@ use Rattle.machine.specs.Events.{Event}
 use Rattle.fusb302.specs.declared.device.Device.{Device}
 use Rattle.fusb302.specs.View.{view}
 use Rattle.turn.specs.declared.Turned.{Turned}
-use Rattle.turn.specs.Turn.{Lent, Takes}
+use Rattle.turn.specs.Turn.{Lent, TakesLine}
 
 -- two outcomes that no caller can tell apart, in what is answered and in all that is lent
-pub record Alike (r s : Turned) (a b : Lent) : Type 0 where
+pub record SameTurn (r s : Turned) (a b : Lent) : Type 0 where
   pub state : view (r .device) ≡ view (s .device)
   pub ends : r .ends ≡ s .ends
   pub at : r .at ≡ s .at
@@ -22,4 +22,4 @@ pub record Alike (r s : Turned) (a b : Lent) : Type 0 where
 abbrev pub OneTurn : Type 0
 OneTurn =
     (fits : Bool) (d : Device) (e : Option Event) (number : ℕ) (before : Lent) (at : ℕ) (r s : Turned) (a b : Lent)
-    → Takes fits d e number before at r a → Takes fits d e number before at s b → Alike r s a b
+    → TakesLine fits d e number before at r a → TakesLine fits d e number before at s b → SameTurn r s a b

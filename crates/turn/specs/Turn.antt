@@ -20,8 +20,8 @@ use Rattle.fusb302.specs.View.{view, Asks}
 use Rattle.fusb302.specs.Serves.{overlaid, Serves}
 use Rattle.script.specs.declared.parse.Line.{Line}
 use Rattle.script.specs.declared.parse.Line.the-variants.{Write, Read, Time, HardReset, Packet, Bad}
-use Rattle.script.specs.Parse.{eventOf, setupOf, octetsOf}
-use Rattle.script.specs.Print.{outcomeText, badText}
+use Rattle.script.specs.Parse.{eventOf, setupOf, packetOctets}
+use Rattle.script.specs.Print.{outcomeText, badLineText}
 use Rattle.turn.specs.declared.Turned.{Turned}
 
 -- ---- a line's event, or none where it is out of form
@@ -44,12 +44,12 @@ sentBy s none = []
 sentBy s (some e) = step s e .frames
 
 -- reply, INT_N level after it, symbols
-unfoldable pub shown : Result → List ℕ
-shown r = outcomeText (r .reply) (not (intLow (r .state))) (joined (r .frames))
+unfoldable pub resultText : Result → List ℕ
+resultText r = outcomeText (r .reply) (not (intLow (r .state))) (joined (r .frames))
 
 unfoldable pub textOf : State → Option Event → ℕ → List ℕ
-textOf s none number = badText number
-textOf s (some e) number = shown (step s e)
+textOf s none number = badLineText number
+textOf s (some e) number = resultText (step s e)
 
 -- ---- promises
 
@@ -71,12 +71,12 @@ pub record Acts (d : Device) (e : Option Event) (number : ℕ) (lent out : List 
 -- a line is taken
 pub record Turns (d : Device) (e : Option Event) (number : ℕ) (before : Lent) (at : ℕ) (r : Turned) (after : Lent) : Type 0 where
   pub acts : Acts d e number (before .symbols) (before .out) at r (after .symbols) (after .out)
-  pub octets : after .octets ≡ overlaid (octetsOf e) (before .octets)
+  pub octets : after .octets ≡ overlaid (packetOctets e) (before .octets)
 
 -- or, where its text need not fit, all stays as it stood and the run ends
-unfoldable pub Takes : Bool → Device → Option Event → ℕ → Lent → ℕ → Turned → Lent → Type 0
-Takes true d e number before at r after = Turns d e number before at r after
-Takes false d e number before at r after = (r ≡ record { device = d; ends = true; at = at }) × (after ≡ before)
+unfoldable pub TakesLine : Bool → Device → Option Event → ℕ → Lent → ℕ → Turned → Lent → Type 0
+TakesLine true d e number before at r after = Turns d e number before at r after
+TakesLine false d e number before at r after = (r ≡ record { device = d; ends = true; at = at }) × (after ≡ before)
 
 -- ---- a parsed line, and the octets beside it
 
@@ -105,6 +105,6 @@ isBad (Packet k n) = false
 isBad Bad = true
 
 -- the device serves it; none leaves all as it stands
-abbrev pub Steps : Option Event → Device → List ℕ → Outcome → List ℕ → Type 0
-Steps none d before r after = (r ≡ record { device = d; reply = Done; count = 0 }) × (after ≡ before)
-Steps (some e) d before r after = Serves e d before r after
+abbrev pub ServesLine : Option Event → Device → List ℕ → Outcome → List ℕ → Type 0
+ServesLine none d before r after = (r ≡ record { device = d; reply = Done; count = 0 }) × (after ≡ before)
+ServesLine (some e) d before r after = Serves e d before r after

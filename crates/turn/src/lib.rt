@@ -5,7 +5,7 @@ use fusb302::Reply;
 use script::parse::Line;
 use script::parse::parse_event;
 use script::parse::parse_setup;
-use script::print::LINE_ROOM;
+use script::print::BENCH_LINE_ROOM;
 use script::print::print_bad;
 use script::print::print_outcome;
 use text::put::has_room;
@@ -16,8 +16,8 @@ ghost use lib.ListN.{length};
 ghost use Rattle.text.specs.Put.{hasRoom};
 ghost use Rattle.fusb302.specs.View.{Asks};
 ghost use Rattle.script.specs.Parse.{Parses};
-ghost use Rattle.script.specs.Print.{lineRoom};
-ghost use Rattle.turn.specs.Turn.{meantBy, eventFor, heardOf, isBad, Steps, Acts, Takes};
+ghost use Rattle.script.specs.Print.{benchLineRoom};
+ghost use Rattle.turn.specs.Turn.{meantBy, eventFor, heardOf, isBad, ServesLine, Acts, TakesLine};
 
 // After a line: the device, whether the run ends there, and the place behind what was printed.
 pub struct Turned {
@@ -51,7 +51,7 @@ fn parsed(setup: bool, line: &[u8], octets: &mut [u8; 84]) -> Line
 // The event of a parsed line; a line that is bad is none, and leaves all as it stands.
 fn serve(device: Device, line: Line, octets: &[u8], symbols: &mut [u8]) -> Outcome
     requires { ⌜ Asks device × (heardOf line ≤ length (now octets)) × (length (now symbols) ≡ 73) ⌝ }
-    ensures { λ r. ⌜ Steps (eventFor line (now (octets .entry))) device (now (symbols .entry)) r (now (symbols .exit)) ⌝ }
+    ensures { λ r. ⌜ ServesLine (eventFor line (now (octets .entry))) device (now (symbols .entry)) r (now (symbols .exit)) ⌝ }
 {
     match line {
         Line::Write(address, value) => device.write(address, value, symbols),
@@ -77,7 +77,7 @@ fn act(
     out: &mut [u8],
     at: usize,
 ) -> Turned
-    requires { ⌜ Asks device × (heardOf line ≤ length (now octets)) × (length (now symbols) ≡ 73) × (hasRoom lineRoom (now out) at ≡ true) ⌝ }
+    requires { ⌜ Asks device × (heardOf line ≤ length (now octets)) × (length (now symbols) ≡ 73) × (hasRoom benchLineRoom (now out) at ≡ true) ⌝ }
     ensures { λ r. ⌜ Acts device (eventFor line (now (octets .entry))) number (now (symbols .entry)) (now (out .entry)) at r (now (symbols .exit)) (now (out .exit)) ⌝ }
 {
     if is_bad(line) {
@@ -113,9 +113,9 @@ pub fn turn(
     at: usize,
 ) -> Turned
     requires { ⌜ Asks device ⌝ }
-    ensures { λ r. ⌜ Takes (hasRoom lineRoom (now (out .entry)) at) device (meantBy setup (now (line .entry))) number (record { out = now (out .entry); octets = now (octets .entry); symbols = now (symbols .entry) }) at r (record { out = now (out .exit); octets = now (octets .exit); symbols = now (symbols .exit) }) ⌝ }
+    ensures { λ r. ⌜ TakesLine (hasRoom benchLineRoom (now (out .entry)) at) device (meantBy setup (now (line .entry))) number (record { out = now (out .entry); octets = now (octets .entry); symbols = now (symbols .entry) }) at r (record { out = now (out .exit); octets = now (octets .exit); symbols = now (symbols .exit) }) ⌝ }
 {
-    if has_room(LINE_ROOM, out.len(), at) {
+    if has_room(BENCH_LINE_ROOM, out.len(), at) {
         let meant = parsed(setup, line, octets);
         return act(device, meant, number, octets, symbols, out, at);
     }

@@ -1,8 +1,7 @@
 -- What is printed lies in the buffer.
-use mathlib.Core.Path.{sym, subst}
 use native.Mathlib.Omega.{arith}
 use borrow.Author.Needs.{needs}
-use Rattle.stream.specs.Ready.{Ready}
+use Rattle.stream.proofs.Staying.{room-ready, stepped-ready}
 use Rattle.turn.proofs.Turning.{bad-within}
 use Rattle.bench.proofs.bad.Statement.{statement}
 use Rattle.bench.proofs.bad.Tie as tie
@@ -24,9 +23,9 @@ returns c =
     let print = c .before .before .before in
     let roomed = print .before .before .before in
     let begun = roomed .before .before .before in
-    let ready = roomed .room .ensures .0 in
+    let ready = room-ready (begun .args .s) (roomed .room .result) 227 (begun .args .out .now) (begun .pre .0) (roomed .room .ensures) in
     let fits = bad-within (begun .args .out .now) (roomed .room .result .used) _ _ _ (omega (arith, begun .pre .1, ready .output)) (print .print-bad .ensures) in
-    subst Ready (sym (c .stepped .ensures)) (record { input = ready .input; output = omega (arith, fits, begun .pre .1) })
+    stepped-ready _ _ _ _ _ (ready .input) (omega (arith, fits, begun .pre .1)) (c .stepped .ensures)
 
 pub bad-spec : {M : Type 1} → statement M
 bad-spec = tie.close (tie.spec room-requires print-bad-requires stepped-requires same-length returns)

@@ -29,10 +29,20 @@ one-requires : tie.Need-one-requires Inv-loop μ-loop
 one-requires c κs = search needs
 
 same-length : tie.Need-same-length Inv-loop μ-loop
-same-length c = search (needs, c .before .before .before .before .before .before .before .before .before .before .before .before .before .before .before .before .before .before .pre .4)
+same-length c =
+    let ran = c .before .before .before .before in
+    let called = ran .before .before .before .before in
+    let turn = called .before .before .before .before in
+    let loop = turn .before .before .before in
+    search (needs, loop .before .before .before .pre .4)
 
 same-length-2 : tie.Need-same-length-2 Inv-loop μ-loop
-same-length-2 c = search (needs, c .before .before .before .before .before .before .before .before .before .before .before .before .before .before .before .before .before .before .pre .5)
+same-length-2 c =
+    let ran = c .before .before .before .before in
+    let called = ran .before .before .before .before in
+    let turn = called .before .before .before .before in
+    let loop = turn .before .before .before in
+    search (needs, loop .before .before .before .pre .5)
 
 returns : tie.Need-returns Inv-loop μ-loop
 returns c = search needs

@@ -1,16 +1,17 @@
 -- No more octets are taken than the line has room for, and each lies in it.
-use mathlib.Core.Path.{_≡_, sym}
+use mathlib.Core.Path.{_≡_}
 use Prim.Native.Nat.{_-_, _≤_}
 use native.Mathlib.Omega.{arith}
 use borrow.Author.Needs.{needs}
 use lib.ListN.{length}
-use lib.Seq.{length-take-le}
-use Rattle.stream.specs.Ready.{Right}
+use Rattle.stream.specs.Ready.{InBuffer}
+use Rattle.stream.proofs.Staying.{more-inside}
+use Rattle.bench.proofs.Counting.{counts-in}
 use Rattle.bench.proofs.next_line.Statement.{statement}
 use Rattle.bench.proofs.next_line.Tie as tie
 
 abbrev Inv-loop : tie.InvT-loop
-Inv-loop buf₀ line₀ i₀ n₀ buf line i n = Right i × (n ≤ 256) × (length line ≡ 256)
+Inv-loop buf₀ line₀ i₀ n₀ buf line i n = InBuffer i × (n ≤ 256) × (length line ≡ 256)
 
 abbrev μ-loop : tie.MeasureT-loop
 μ-loop buf₀ line₀ i₀ n₀ buf line i n = 256 - n
@@ -25,19 +26,35 @@ same-length : tie.Need-same-length Inv-loop μ-loop
 same-length c = search needs
 
 returns : tie.Need-returns Inv-loop μ-loop
-returns c = (search needs, let e : length (c .before .before .before .before .before .loop .line) ≡ 256 = omega (arith, c .before .before .before .before .before .loop .inv .2) in (omega (arith, c .before .before .before .before .before .loop .inv .1), sym (length-take-le (c .before .before .before .before .before .loop .n) (c .before .before .before .before .before .loop .line) (omega (arith, c .before .before .before .before .before .loop .inv .1)))))
+returns c =
+    let read = c .before .before in
+    let turn = read .before .before .before in
+    let inside = more-inside _ (turn .loop .inv .0) (read .more .ensures) in
+    (inside, counts-in (turn .loop .line) (turn .loop .n) (turn .loop .inv .1) (turn .loop .inv .2))
 
 element-copy-out-b : tie.Need-element-copy-out-b Inv-loop μ-loop
-element-copy-out-b c = search needs
+element-copy-out-b c =
+    let read = c .before .before in
+    let turn = read .before .before .before in
+    let inside = more-inside _ (turn .loop .inv .0) (read .more .ensures) in
+    omega (arith, inside .0, inside .1)
 
 add-i : tie.Need-add-i Inv-loop μ-loop
-add-i c = search needs
+add-i c =
+    let read = c .before .before .before in
+    let turn = read .before .before .before in
+    let inside = more-inside _ (turn .loop .inv .0) (read .more .ensures) in
+    omega (arith, inside .0, inside .1)
 
 same-length-2 : tie.Need-same-length-2 Inv-loop μ-loop
 same-length-2 c = search needs
 
 returns-2 : tie.Need-returns-2 Inv-loop μ-loop
-returns-2 c = (search needs, let e : length (c .before .before .before .before .before .before .before .loop .line) ≡ 256 = omega (arith, c .before .before .before .before .before .before .before .loop .inv .2) in (omega (arith, c .before .before .before .before .before .before .before .loop .inv .1), sym (length-take-le (c .before .before .before .before .before .before .before .loop .n) (c .before .before .before .before .before .before .before .loop .line) (omega (arith, c .before .before .before .before .before .before .before .loop .inv .1)))))
+returns-2 c =
+    let read = c .before .before .before .before in
+    let turn = read .before .before .before in
+    let inside = more-inside _ (turn .loop .inv .0) (read .more .ensures) in
+    ((omega (arith, inside .0), inside .1), counts-in (turn .loop .line) (turn .loop .n) (turn .loop .inv .1) (turn .loop .inv .2))
 
 slice-write-line : tie.Need-slice-write-line Inv-loop μ-loop
 slice-write-line c = search needs
@@ -49,13 +66,19 @@ loop-less : tie.Need-loop-less Inv-loop μ-loop
 loop-less c = search needs
 
 loop-again : tie.Need-loop-again Inv-loop μ-loop
-loop-again c = search needs
+loop-again c =
+    let read = c .before .before .before .before in
+    let turn = read .before .before .before in
+    let inside = more-inside _ (turn .loop .inv .0) (read .more .ensures) in
+    ((omega (arith, inside .0), inside .1), search needs, search needs)
 
 same-length-3 : tie.Need-same-length-3 Inv-loop μ-loop
 same-length-3 c = search needs
 
 returns-3 : tie.Need-returns-3 Inv-loop μ-loop
-returns-3 c = (search needs, let e : length (c .before .loop .line) ≡ 256 = omega (arith, c .before .loop .inv .2) in (omega (arith, c .before .loop .inv .1), sym (length-take-le (c .before .loop .n) (c .before .loop .line) (omega (arith, c .before .loop .inv .1)))))
+returns-3 c =
+    let turn = c .before in
+    (turn .loop .inv .0, counts-in (turn .loop .line) (turn .loop .n) (turn .loop .inv .1) (turn .loop .inv .2))
 
 pub next-line-spec : {M : Type 1} → statement M
 next-line-spec =

@@ -16,10 +16,26 @@ enum-known-said c = search needs
 
 lines-requires : tie.Need-lines-requires
 lines-requires c κs =
-    (c .before .before .before .before .before .before .before .before .before .before .before .before .before .before .before .before .pre .0, c .before .before .before .before .before .before .before .before .before .before .before .count-line .ensures .0, few-is (c .before .before .before .before .before .before .before .before .before .before .before .count-line .result .number) _ (c .before .before .before .before .before .before .before .before .before .before .before .count-line .ensures .1) (c .before .before .before .before .before .before .said .given .1), omega (arith, c .before .before .before .before .before .before .before .before .before .before .before .before .before .before .before .before .pre .2), search (needs, c .before .before .before .before .before .before .before .before .before .before .before .before .before .before .before .before .pre .3), search (needs, c .before .before .before .before .before .before .before .before .before .before .before .before .before .before .before .before .pre .4))
+    let told = c .before .before .before in
+    let said = told .before .before .before in
+    let lent = said .before .before in
+    let counted = lent .before .before .before in
+    let start = counted .before .before in
+    let begun = start .before .before .before in
+    let few = few-is (counted .count-line .result .number) _ (counted .count-line .ensures .1) (said .said .given .1) in
+    (begun .pre .0, counted .count-line .ensures .0, few, omega (arith, begun .pre .2), search (needs, begun .pre .3), search (needs, begun .pre .4))
 
 add-t30 : tie.Need-add-t30
-add-t30 c = search (needs, few-is (c .before .before .before .before .before .before .before .before .before .before .before .before .before .before .before .before .before .before .count-line .result .number) _ (c .before .before .before .before .before .before .before .before .before .before .before .before .before .before .before .before .before .before .count-line .ensures .1) (c .before .before .before .before .before .before .before .before .before .before .before .before .before .said .given .1), c .before .before .before .before .before .before .before .before .before .before .before .before .before .before .before .before .before .before .before .before .before .before .before .pre .2)
+add-t30 c =
+    let ran = c .before .before .before in
+    let lines = ran .before .before .before in
+    let called = lines .before .before .before .before in
+    let said = called .before .before .before in
+    let lent = said .before .before in
+    let counted = lent .before .before .before in
+    let few = few-is (counted .count-line .result .number) _ (counted .count-line .ensures .1) (said .said .given .1) in
+    let start = counted .before .before in
+    omega (arith, few, start .before .before .before .pre .2)
 
 enum-told : tie.Need-enum-told
 enum-told c = search needs
@@ -35,7 +51,14 @@ same-length-2 c = search needs
 
 returns : tie.Need-returns
 returns c =
-    (c .before .before .before .before .before .before .lines .ensures .0, c .before .before .before .before .before .before .lines .ensures .1, omega (arith, few-is (c .before .before .before .before .before .before .before .before .before .before .before .before .before .before .before .before .before .before .count-line .result .number) _ (c .before .before .before .before .before .before .before .before .before .before .before .before .before .before .before .before .before .before .count-line .ensures .1) (c .before .before .before .before .before .before .before .before .before .before .before .before .before .said .given .1)))
+    let ran = c .before .before .before in
+    let lines = ran .before .before .before in
+    let called = lines .before .before .before .before in
+    let said = called .before .before .before in
+    let lent = said .before .before in
+    let counted = lent .before .before .before in
+    let few = few-is (counted .count-line .result .number) _ (counted .count-line .ensures .1) (said .said .given .1) in
+    (lines .lines .ensures .0, lines .lines .ensures .1, omega (arith, few))
 
 same-length-3 : tie.Need-same-length-3
 same-length-3 c = search needs

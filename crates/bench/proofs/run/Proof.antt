@@ -1,8 +1,7 @@
 -- The setup is followed by the events where it ended well.
-use mathlib.Core.Path.{sym, subst}
 use native.Mathlib.Omega.{arith}
 use borrow.Author.Needs.{needs}
-use Rattle.stream.specs.Ready.{Ready}
+use Rattle.stream.proofs.Staying.{begin-ready}
 use Rattle.bench.proofs.run.Statement.{statement}
 use Rattle.bench.proofs.run.Tie as tie
 
@@ -14,20 +13,28 @@ power-up-requires c κs = search needs
 
 part-requires : tie.Need-part-requires
 part-requires c κs =
-    let started = c .before .before .before .before .before .before in
+    let lent = c .before .before .before in
+    let started = lent .before .before .before in
     let begun = started .before .before .before in
-    (search needs, subst Ready (sym (started .begin .ensures)) (record { input = (omega arith, omega arith); output = omega arith }), omega arith, search (needs, begun .pre .0), search (needs, begun .pre .1))
+    (search needs, begin-ready _ (started .begin .ensures), omega arith, search (needs, begun .pre .0), search (needs, begun .pre .1))
 
 part-requires-2 : tie.Need-part-requires-2
 part-requires-2 c κs =
-    let set = c .before .before .before .before .before .before .before .before .before .before .before .before in
-    let begun = set .before .before .before .before .before .before .before .before .before .before in
+    let lent = c .before .before .before .before in
+    let left = lent .before .before .before .before in
+    let set = left .before .before .before .before in
+    let called = set .before .before .before .before in
+    let started = called .before .before .before in
+    let begun = started .before .before .before in
     (set .part .ensures .0, set .part .ensures .1, omega (arith, set .part .ensures .2), search (needs, begun .pre .0, set .part .kept .1 .1 .1 .1 .1 .0), search (needs, begun .pre .1, set .part .kept .1 .1 .1 .1 .1 .1 .1 .1 .0))
 
 same-length : tie.Need-same-length
 same-length c =
     let last = c .before .before .before .before in
-    let set = last .before .before .before .before .before .before .before .before .before .before .before .before .before in
+    let lent = last .before .before .before .before in
+    let left = lent .before .before .before .before in
+    let line = left .before .before in
+    let set = line .before .before .before in
     search (needs, last .part2 .kept .1 .1 .1 .1 .1 .0, set .part .kept .1 .1 .1 .1 .1 .0)
 
 same-length-2 : tie.Need-same-length-2

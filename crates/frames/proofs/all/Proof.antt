@@ -1,17 +1,15 @@
--- Between characters the stream is ready and the listing holds no more than was taken.
-use mathlib.Core.Path.{_≡_, sym, subst}
+-- Between characters the stream is ready.
+use mathlib.Core.Path.{_≡_}
 use Prim.Native.Nat.{_-_}
-use native.Mathlib.Omega.{arith}
 use borrow.Author.Needs.{needs}
 use lib.ListN.{length}
-use Rattle.listing.specs.Steps.{start}
 use Rattle.stream.specs.Ready.{Ready}
-use Rattle.frames.specs.Holds.{Holds}
+use Rattle.stream.proofs.Staying.{begin-ready}
 use Rattle.frames.proofs.all.Statement.{statement}
 use Rattle.frames.proofs.all.Tie as tie
 
 abbrev Inv-loop : tie.InvT-loop
-Inv-loop buf₀ window₀ out₀ run₀ taken₀ buf window out run taken = Ready (run .stream) × Holds taken (run .listing) × (length out ≡ 65536)
+Inv-loop buf₀ window₀ out₀ run₀ taken₀ buf window out run taken = Ready (run .stream) × (length out ≡ 65536)
 
 abbrev μ-loop : tie.MeasureT-loop
 μ-loop buf₀ window₀ out₀ run₀ taken₀ buf window out run taken = 18446744073709551615 - taken
@@ -23,12 +21,7 @@ begin-requires-2 : tie.Need-begin-requires-2 Inv-loop μ-loop
 begin-requires-2 c κs = search needs
 
 loop-holds : tie.Need-loop-holds Inv-loop μ-loop
-unfolding start
-loop-holds c = (
-  subst Ready (sym (c .before .begin .ensures)) (record { input = (omega arith, omega arith); output = omega arith }),
-  subst (Holds 0) (sym (c .begin2 .ensures)) (record { few = omega arith; counts = omega arith }),
-  search needs,
-)
+loop-holds c = (begin-ready _ (c .before .begin .ensures), search needs)
 
 one-requires : tie.Need-one-requires Inv-loop μ-loop
 one-requires c κs = search needs
@@ -46,9 +39,7 @@ loop-less : tie.Need-loop-less Inv-loop μ-loop
 loop-less c = search needs
 
 loop-again : tie.Need-loop-again Inv-loop μ-loop
-loop-again c =
-    let one = c .before .before .before .before .before .one in
-    (one .ensures .0, one .ensures .1, search needs)
+loop-again c = search needs
 
 same-length-2 : tie.Need-same-length-2 Inv-loop μ-loop
 same-length-2 c = search needs

@@ -1,9 +1,8 @@
 -- What is said at the end is printed inside the buffer.
-use mathlib.Core.Path.{refl, sym, subst}
 use native.Mathlib.Omega.{arith}
 use borrow.Author.Needs.{needs}
-use Rattle.stream.specs.Ready.{Ready}
-use Rattle.listing.proofs.Goings.{end-inside}
+use Rattle.stream.proofs.Staying.{stepped-ready}
+use Rattle.listing.proofs.Goings.{finish-inside}
 use Rattle.frames.proofs.end.Statement.{statement}
 use Rattle.frames.proofs.end.Tie as tie
 
@@ -20,11 +19,9 @@ returns : tie.Need-returns
 returns c =
     let last = c .before .before .before in
     let begun = last .before .before .before .before in
-    let l = begun .args .listing in
-    let inside = end-inside (l .scan) (l .before) (l .count) (begun .args .out .now) (begun .args .stream .used) _ _ (begun .pre .3) (last .finish .ensures) in (
-      subst Ready (sym (c .stepped .ensures)) (record { input = begun .pre .0 .input; output = omega (arith, inside, begun .pre .2) }),
-      refl,
-    )
+    let a = begun .args in
+    let inside = finish-inside (a .listing) (a .out .now) (a .stream .used) _ _ (omega (arith, begun .pre .0 .output, begun .pre .1)) (last .finish .ensures) in
+    stepped-ready _ _ _ _ _ (begun .pre .0 .input) (omega (arith, inside, begun .pre .1)) (c .stepped .ensures)
 
 pub end-spec : {M : Type 1} → statement M
 end-spec = tie.close (tie.spec finish-requires stepped-requires same-length returns)

@@ -1,10 +1,7 @@
--- A character more is counted, whether one was there or the input is at its end.
-use mathlib.Core.Path.{sym, subst}
-use Prim.Native.Nat.{_+_}
+-- What is there is taken, with room for any line.
 use native.Mathlib.Omega.{arith}
 use borrow.Author.Needs.{needs}
-use Rattle.listing.specs.declared.Listing.{Listing}
-use Rattle.frames.specs.Holds.{Holds}
+use Rattle.stream.proofs.Staying.{fill-ready, room-ready, room-is-made}
 use Rattle.frames.proofs.one.Statement.{statement}
 use Rattle.frames.proofs.one.Tie as tie
 
@@ -15,31 +12,38 @@ room-requires : tie.Need-room-requires
 room-requires c κs = search needs
 
 take-requires : tie.Need-take-requires
-take-requires c κs = search needs
+take-requires c κs =
+    let test = c .before .before .before in
+    let roomed = test .before .before .before in
+    let filled = roomed .before .before in
+    let held = filled .before .before .before in
+    let begun = held .before .before .before in
+    let ready = fill-ready (begun .args .run .stream) (filled .fill .result) _ _ (begun .pre .0) (filled .fill .ensures) in
+    let fits = room-is-made (filled .fill .result) (roomed .room .result) 125 (begun .args .out .now) (omega (arith, begun .pre .1)) (roomed .room .ensures) in
+    (room-ready _ _ 125 (begun .args .out .now) ready (roomed .room .ensures), search needs, search (needs, begun .pre .1), fits)
 
 same-length : tie.Need-same-length
 same-length c = search needs
 
 returns : tie.Need-returns
-returns c =
-    let taken = c .before .before in
-    let held = taken .take .ensures .1 in
-    let begun = taken .before .before .before .before .before .before .before .before .before .before .before .before .before .before .before in
-    (taken .take .ensures .0, record { few = held .few; counts = omega (arith, held .counts, begun .pre .1 .counts) })
+returns c = search needs
 
 end-requires : tie.Need-end-requires
-end-requires c κs = search needs
+end-requires c κs =
+    let test = c .before in
+    let roomed = test .before .before .before in
+    let filled = roomed .before .before in
+    let held = filled .before .before .before in
+    let begun = held .before .before .before in
+    let ready = fill-ready (begun .args .run .stream) (filled .fill .result) _ _ (begun .pre .0) (filled .fill .ensures) in
+    let fits = room-is-made (filled .fill .result) (roomed .room .result) 125 (begun .args .out .now) (omega (arith, begun .pre .1)) (roomed .room .ensures) in
+    (room-ready _ _ 125 (begun .args .out .now) ready (roomed .room .ensures), search (needs, begun .pre .1), fits)
 
 same-length-2 : tie.Need-same-length-2
 same-length-2 c = search needs
 
 returns-2 : tie.Need-returns-2
-returns-2 c =
-    let last = c .before .before in
-    let begun = last .before .before .before .before .before .before .before .before .before .before .before .before .before in (
-      last .end .ensures .0,
-      subst (Holds (begun .args .taken + 1)) (sym (last .end .ensures .1)) (record { few = begun .pre .1 .few; counts = omega (arith, begun .pre .1 .counts) }),
-    )
+returns-2 c = search needs
 
 pub one-spec : {M : Type 1} → statement M
 one-spec =

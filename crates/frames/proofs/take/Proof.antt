@@ -1,9 +1,8 @@
 -- A character that is there is taken, and what it prints ends inside the buffer.
-use mathlib.Core.Path.{sym, subst}
 use native.Mathlib.Omega.{arith}
 use borrow.Author.Needs.{needs}
-use Rattle.stream.specs.Ready.{Ready}
-use Rattle.listing.proofs.Goings.{took}
+use Rattle.stream.proofs.Staying.{stepped-ready}
+use Rattle.listing.proofs.Goings.{feed-inside}
 use Rattle.frames.proofs.take.Statement.{statement}
 use Rattle.frames.proofs.take.Tie as tie
 
@@ -25,12 +24,11 @@ same-length c = search needs
 returns : tie.Need-returns
 returns c =
     let fed = c .before .before .before .before in
-    let begun = fed .before .before .before .before .before .before in
-    let went = took (begun .args .listing) _ _ (begun .args .out .now) (begun .args .stream .used) (fed .feed .result) _ _ (begun .pre .4) (fed .feed .ensures) in
-    let input = begun .pre .0 .input in (
-      subst Ready (sym (c .stepped .ensures)) (record { input = (omega (arith, begun .pre .1), input .1); output = omega (arith, went .inside, begun .pre .3) }),
-      record { few = went .few; counts = went .counts },
-    )
+    let called = fed .before .before .before in
+    let begun = called .before .before .before in
+    let a = begun .args in
+    let inside = feed-inside (a .listing) _ _ (a .out .now) (a .stream .used) (fed .feed .result) _ _ (omega (arith, begun .pre .0 .output, begun .pre .2)) (fed .feed .ensures) in
+    stepped-ready _ _ _ _ _ (omega (arith, begun .pre .1), begun .pre .0 .input .1) (omega (arith, inside, begun .pre .2)) (c .stepped .ensures)
 
 pub take-spec : {M : Type 1} → statement M
 take-spec =

@@ -1,11 +1,11 @@
 -- A listing begins with nothing.
 use mathlib.Core.Path.{refl}
-use Rattle.listing.specs.Steps.{start}
+use Rattle.listing.specs.Steps.{emptyState}
 use Rattle.listing.proofs.begin.Statement.{statement}
 use Rattle.listing.proofs.begin.Tie as tie
 
 returns : tie.Need-returns
-unfolding start
+unfolding emptyState
 returns c = refl
 
 pub begin-spec : {M : Type 1} → statement M

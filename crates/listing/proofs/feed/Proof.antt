@@ -1,21 +1,22 @@
--- The step is that to the form behind the character, exactly where any line has room.
+-- The step is that to the form behind the character, exactly where the listing may print.
 use mathlib.Core.Path.{sym, _∙_}
 use borrow.Author.Needs.{needs}
-use Rattle.listing.proofs.Goings.{takes-it, takes-none}
+use Rattle.listing.proofs.Goings.{may-bounds, may-room, takes-it, takes-none}
 use Rattle.listing.proofs.feed.Statement.{statement}
 use Rattle.listing.proofs.feed.Tie as tie
 
-has-room-requires : tie.Need-has-room-requires
-has-room-requires c κs = search needs
+may-print-requires : tie.Need-may-print-requires
+may-print-requires c κs = search needs
 
-after-requires : tie.Need-after-requires
-after-requires c κs = search needs
+form-after-requires : tie.Need-form-after-requires
+form-after-requires c κs = search needs
 
 go-requires : tie.Need-go-requires
 go-requires c κs =
     let test = c .before .before .before in
-    let begun = test .before .before .before in
-    (begun .pre, search needs, sym (test .before .has-room .ensures) ∙ test .if1 .taken)
+    let a = test .before .before .before .args in
+    let may = sym (test .before .may-print .ensures) ∙ test .if1 .taken in
+    (may-bounds (a .listing) (a .out .now) (a .at) may, search needs, may-room (a .listing) (a .out .now) (a .at) may)
 
 same-length : tie.Need-same-length
 same-length c = search needs
@@ -26,7 +27,7 @@ returns c =
     let scan = go .before .before .before in
     let test = scan .before in
     let begun = test .before .before .before in
-    takes-it (begun .args .listing) (begun .args .c) (scan .after .result) (sym (test .before .has-room .ensures) ∙ test .if1 .taken) (scan .after .ensures) (go .go .ensures)
+    takes-it (begun .args .listing) (begun .args .c) (scan .form-after .result) (sym (test .before .may-print .ensures) ∙ test .if1 .taken) (scan .form-after .ensures) (go .go .ensures)
 
 stop-requires : tie.Need-stop-requires
 stop-requires c κs = search needs
@@ -35,14 +36,14 @@ returns-2 : tie.Need-returns-2
 returns-2 c =
     let test = c .before in
     let begun = test .before .before .before in
-    takes-none (begun .args .listing) (begun .args .c) _ _ _ _ (sym (test .before .has-room .ensures) ∙ test .if1 .left) (c .stop .ensures)
+    takes-none (begun .args .listing) (begun .args .c) _ _ _ _ (sym (test .before .may-print .ensures) ∙ test .if1 .left) (c .stop .ensures)
 
 pub feed-spec : {M : Type 1} → statement M
 feed-spec =
     tie.close
     (tie.spec
-    has-room-requires
-    after-requires
+    may-print-requires
+    form-after-requires
     go-requires
     same-length
     returns

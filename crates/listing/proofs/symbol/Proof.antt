@@ -46,21 +46,24 @@ array-share-prefix-octets : tie.Need-array-share-prefix-octets
 array-share-prefix-octets c =
     let told = c .before in
     let read = told .before .before .before in
-    let begun = read .before .before .before .before .before in
+    let called = read .before .before in
+    let begun = called .before .before .before in
     frame-fits (begun .args .listing) (begun .args .window .now) (begun .args .out .now) (begun .args .at) (begun .pre .0) (begun .pre .1) (begun .pre .2) (begun .args .v) _ _ _ refl (read .read-frame .kept .1 .1 .0) (read .read-frame .ensures) _ _ _ (told .kind .given .1)
 
 slice-aggregate-put-frame : tie.Need-slice-aggregate-put-frame
 slice-aggregate-put-frame c =
     let told = c .before .before in
     let read = told .before .before .before in
-    let begun = read .before .before .before .before .before in
+    let called = read .before .before in
+    let begun = called .before .before .before in
     sym (length-take-le _ _ (frame-fits (begun .args .listing) (begun .args .window .now) (begun .args .out .now) (begun .args .at) (begun .pre .0) (begun .pre .1) (begun .pre .2) (begun .args .v) _ _ _ refl (read .read-frame .kept .1 .1 .0) (read .read-frame .ensures) _ _ _ (told .kind .given .1)))
 
 put-frame-requires : tie.Need-put-frame-requires
 put-frame-requires c κs =
     let told = c .before .before .before in
     let read = told .before .before .before in
-    let begun = read .before .before .before .before .before in
+    let called = read .before .before in
+    let begun = called .before .before .before in
     (frame-few (begun .args .listing) (begun .args .window .now) (begun .args .out .now) (begun .args .at) (begun .pre .0) (begun .pre .1) (begun .pre .2) (begun .args .v) _ _ _ refl (read .read-frame .kept .1 .1 .0) (read .read-frame .ensures) _ _ _ (told .kind .given .1), room (begun .args .out .now) (begun .args .at) (begun .pre .2))
 
 enum-told : tie.Need-enum-told
@@ -76,7 +79,8 @@ add-put-no : tie.Need-add-put-no
 add-put-no c =
     let told = c .before in
     let read = told .before .before .before in
-    let begun = read .before .before .before .before .before in
+    let called = read .before .before in
+    let begun = called .before .before .before in
     omega (arith, none-fits (begun .args .listing) (begun .args .window .now) (begun .args .out .now) (begun .args .at) (begun .pre .0) (begun .pre .1) (begun .pre .2) (begun .args .v) _ _ _ refl (read .read-frame .kept .1 .1 .0) (read .read-frame .ensures) _ (told .p .given .1))
 
 put-no-requires : tie.Need-put-no-requires
@@ -92,7 +96,8 @@ add-put-no-2 : tie.Need-add-put-no-2
 add-put-no-2 c =
     let told = c .before in
     let read = told .before .before .before in
-    let begun = read .before .before .before .before .before in
+    let called = read .before .before in
+    let begun = called .before .before .before in
     omega (arith, wrong-fits (begun .args .listing) (begun .args .window .now) (begun .args .out .now) (begun .args .at) (begun .pre .0) (begun .pre .1) (begun .pre .2) (begun .args .v) _ _ _ refl (read .read-frame .kept .1 .1 .0) (read .read-frame .ensures) _ (told .p2 .given .1))
 
 put-no-requires-2 : tie.Need-put-no-requires-2
@@ -115,9 +120,11 @@ same-length-2 c = search needs
 
 returns : tie.Need-returns
 returns c =
-    let told = c .before .before .before .before .before .before in
+    let put = c .before .before .before in
+    let told = put .before .before .before in
     let read = told .before .before .before in
-    let begun = read .before .before .before .before .before in
+    let called = read .before .before in
+    let begun = called .before .before .before in
     answers-frame (begun .args .listing) (begun .args .window .now) (begun .args .out .now) (begun .args .at) (begun .pre .0) (begun .pre .1) (begun .pre .2) (begun .args .v) _ _ _ refl (read .read-frame .kept .1 .1 .0) (read .read-frame .ensures) _ _ _ _ _ (told .kind .given .1) (c .before .before .put-frame .ensures)
 
 same-length-3 : tie.Need-same-length-3
@@ -127,7 +134,8 @@ returns-2 : tie.Need-returns-2
 returns-2 c =
     let told = c in
     let read = told .before .before .before in
-    let begun = read .before .before .before .before .before in
+    let called = read .before .before in
+    let begun = called .before .before .before in
     answers-short (begun .args .listing) (begun .args .window .now) (begun .args .out .now) (begun .args .at) (begun .pre .0) (begun .pre .1) (begun .pre .2) (begun .args .v) _ _ _ refl (read .read-frame .kept .1 .1 .0) (read .read-frame .ensures) _ (told .enum-told .given .1)
 
 same-length-4 : tie.Need-same-length-4
@@ -138,10 +146,12 @@ same-length-5 c = search needs
 
 returns-3 : tie.Need-returns-3
 returns-3 c =
-    let told = c .before .before .before .before .before .before in
+    let put = c .before .before .before in
+    let told = put .before .before .before in
     let read = told .before .before .before in
-    let begun = read .before .before .before .before .before in
-    answers-none (begun .args .listing) (begun .args .window .now) (begun .args .out .now) (begun .args .at) (begun .pre .0) (begun .pre .1) (begun .pre .2) (begun .args .v) _ _ _ refl (read .read-frame .kept .1 .1 .0) (read .read-frame .ensures) _ _ _ _ (told .p .given .1) (c .before .before .before .put-no .ensures) (c .stop .ensures)
+    let called = read .before .before in
+    let begun = called .before .before .before in
+    answers-none (begun .args .listing) (begun .args .window .now) (begun .args .out .now) (begun .args .at) (begun .pre .0) (begun .pre .1) (begun .pre .2) (begun .args .v) _ _ _ refl (read .read-frame .kept .1 .1 .0) (read .read-frame .ensures) _ _ _ _ (told .p .given .1) (put .put-no .ensures) (c .stop .ensures)
 
 same-length-6 : tie.Need-same-length-6
 same-length-6 c = search needs
@@ -151,10 +161,12 @@ same-length-7 c = search needs
 
 returns-4 : tie.Need-returns-4
 returns-4 c =
-    let told = c .before .before .before .before .before .before in
+    let put = c .before .before .before in
+    let told = put .before .before .before in
     let read = told .before .before .before in
-    let begun = read .before .before .before .before .before in
-    answers-wrong (begun .args .listing) (begun .args .window .now) (begun .args .out .now) (begun .args .at) (begun .pre .0) (begun .pre .1) (begun .pre .2) (begun .args .v) _ _ _ refl (read .read-frame .kept .1 .1 .0) (read .read-frame .ensures) _ _ _ _ (told .p2 .given .1) (c .before .before .before .put-no2 .ensures) (c .stop2 .ensures)
+    let called = read .before .before in
+    let begun = called .before .before .before in
+    answers-wrong (begun .args .listing) (begun .args .window .now) (begun .args .out .now) (begun .args .at) (begun .pre .0) (begun .pre .1) (begun .pre .2) (begun .args .v) _ _ _ refl (read .read-frame .kept .1 .1 .0) (read .read-frame .ensures) _ _ _ _ (told .p2 .given .1) (put .put-no2 .ensures) (c .stop2 .ensures)
 
 same-length-8 : tie.Need-same-length-8
 same-length-8 c = search needs
@@ -163,7 +175,8 @@ returns-5 : tie.Need-returns-5
 returns-5 c =
     let told = c .before in
     let read = told .before .before .before in
-    let begun = read .before .before .before .before .before in
+    let called = read .before .before in
+    let begun = called .before .before .before in
     absurd (never-small (begun .args .listing) (begun .args .window .now) (begun .args .out .now) (begun .args .at) (begun .pre .0) (begun .pre .1) (begun .pre .2) (begun .args .v) _ _ _ refl (read .read-frame .kept .1 .1 .0) (read .read-frame .ensures) (told .enum-told2 .given .1))
 
 pub symbol-spec : {M : Type 1} → statement M

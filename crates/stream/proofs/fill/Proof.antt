@@ -1,13 +1,14 @@
--- With nothing to take all that is printed is written, and then more is read.
-use mathlib.Core.Path.{_≡_, refl}
-use native.Mathlib.Omega.{arith}
-use borrow.Author.Needs.{needs}
+-- With nothing to take what is printed is written out, and then more is read where the run goes on.
+use mathlib.Core.Path.{refl, sym, ap}
+use mathlib.Core.Bool.{true≢false}
 use borrow.Author.Tests.{lt-ltb, le-ltb}
+use Rattle.stream.specs.declared.Stream.{Stream}
+use borrow.Author.Needs.{needs}
 use Rattle.stream.proofs.fill.Statement.{statement}
 use Rattle.stream.proofs.fill.Tie as tie
 
 returns : tie.Need-returns
-returns c = (c .before .before .before .before .pre .0, rw (lt-ltb _ _ (c .if1 .taken)) (refl, refl))
+returns c = rw (lt-ltb _ _ (c .if1 .taken)) (refl, refl)
 
 written-requires : tie.Need-written-requires
 written-requires c κs = search needs
@@ -18,17 +19,28 @@ more-requires c κs = search needs
 returns-2 : tie.Need-returns-2
 returns-2 c =
     let test = c .before .before in
-    let wrote = test .before in
-    let printed = wrote .written .ensures .1 .output in
-    let none = le-ltb _ _ (wrote .before .if1 .left) in
-    let begins : c .more .result .at ≡ 0 = rw none at (c .more .ensures .1) in
-    (record { input = c .more .ensures .0; output = omega (arith, printed) }, rw (none, test .if2 .taken) (printed, begins))
+    let wrote = test .before .written .ensures in
+    let none = le-ltb _ _ (test .before .before .if1 .left) in
+    rw none (
+    record {
+      went = wrote .went;
+      used = ap (λ (t : Stream). t .used) (wrote .leaves);
+      on = ap (λ (t : Stream). t .on) (wrote .leaves);
+      input = rw (test .if2 .taken) (record { stood = λ e. absurd (true≢false (sym e)); came = λ e. c .more .ensures .came none });
+    }
+    )
 
 returns-3 : tie.Need-returns-3
 returns-3 c =
-    let wrote = c .before in
-    let said = wrote .written .ensures .1 in
-    (wrote .written .ensures .0, rw (le-ltb _ _ (wrote .before .if1 .left), c .if2 .left) (said .output, (said .input, refl)))
+    let wrote = c .before .written .ensures in
+    rw (le-ltb _ _ (c .before .before .if1 .left)) (
+    record {
+      went = wrote .went;
+      used = ap (λ (t : Stream). t .used) (wrote .leaves);
+      on = ap (λ (t : Stream). t .on) (wrote .leaves);
+      input = rw (c .if2 .left) (record { stood = λ e. (ap (λ (t : Stream). t .input) (wrote .leaves), refl); came = λ e. absurd (true≢false e) });
+    }
+    )
 
 pub fill-spec : {M : Type 1} → statement M
 fill-spec = tie.close (tie.spec returns written-requires more-requires returns-2 returns-3)

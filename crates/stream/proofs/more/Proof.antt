@@ -1,12 +1,13 @@
--- The test is that of `waits`.
-use mathlib.Core.Path.{refl}
-use borrow.Author.Needs.{needs}
+-- The test is that of `octetWaits`.
+use mathlib.Core.Path.{refl, sym, _∙_}
+use mathlib.Core.Bool.{true≢false}
 use borrow.Author.Tests.{lt-ltb, le-ltb}
+use borrow.Author.Needs.{needs}
 use Rattle.stream.proofs.more.Statement.{statement}
 use Rattle.stream.proofs.more.Tie as tie
 
 returns : tie.Need-returns
-returns c = (c .before .before .pre, rw (lt-ltb _ _ (c .if1 .taken)) (refl, refl))
+returns c = record { stood = λ e. (refl, refl); came = λ e. absurd (true≢false (sym (lt-ltb _ _ (c .if1 .taken)) ∙ e)) }
 
 read-requires : tie.Need-read-requires
 read-requires c κs = search needs
@@ -16,8 +17,8 @@ count-requires c κs = search needs
 
 returns-2 : tie.Need-returns-2
 returns-2 c =
-    let test = c .before .before .before .before .before in
-    (search needs, rw (le-ltb _ _ (test .if1 .left)) refl)
+    let read = c .before .before .before in
+    record { stood = λ e. absurd (true≢false (sym e ∙ le-ltb _ _ (read .before .before .if1 .left))); came = λ e. (refl, search needs) }
 
 pub more-spec : {M : Type 1} → statement M
 more-spec = tie.close (tie.spec returns read-requires count-requires returns-2)

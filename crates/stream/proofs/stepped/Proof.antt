@@ -4,10 +4,10 @@ use Rattle.stream.proofs.stepped.Statement.{statement}
 use Rattle.stream.proofs.stepped.Tie as tie
 
 returns : tie.Need-returns
-returns c = rw (c .if1 .taken) refl
+returns c = record { leaves = rw (c .if1 .taken) refl }
 
 returns-2 : tie.Need-returns-2
-returns-2 c = rw (c .if1 .left) refl
+returns-2 c = record { leaves = rw (c .if1 .left) refl }
 
 pub stepped-spec : {M : Type 1} → statement M
 stepped-spec = tie.close (tie.spec returns returns-2)

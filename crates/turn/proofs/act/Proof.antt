@@ -16,19 +16,41 @@ same-length : tie.Need-same-length
 same-length c = search needs
 
 returns : tie.Need-returns
-returns c = acts-bad (c .before .before .before .before .before .before .before .before .before .args .device) (c .before .before .before .before .before .before .before .before .before .args .line) _ (c .before .before .before .before .before .before .before .before .before .args .octets .now) (c .before .before .before .before .before .before .before .before .before .args .symbols .now) (c .before .before .before .before .before .before .before .before .before .args .out .now) _ (c .before .before .before .before .before .before .before .before .before .pre .3) _ _ (c .before .before .before .before .before .before .before .before .before .pre .0) (sym (c .before .before .before .before .before .is-bad .ensures) ∙ c .before .before .before .before .if1 .taken) (c .before .before .print-bad .ensures)
+returns c =
+    let printed = c .before .before in
+    let test = printed .before .before in
+    let asked = test .before in
+    let begun = asked .before .before .before .before in
+    let a = begun .args in
+    acts-bad (a .device) (a .line) _ (a .octets .now) (a .symbols .now) (a .out .now) _ (begun .pre .3) _ _ (begun .pre .0) (sym (asked .is-bad .ensures) ∙ test .if1 .taken) (printed .print-bad .ensures)
 
 serve-requires : tie.Need-serve-requires
 serve-requires c κs = search needs
 
 int-n-requires : tie.Need-int-n-requires
-int-n-requires c κs = steps-ask (c .before .before .before .before .before .before .before .before .before .before .args .line) (c .before .before .before .before .before .before .before .before .before .before .args .octets .now) (c .before .before .before .before .before .before .before .before .before .before .args .device) (c .before .before .before .before .before .before .before .before .before .before .args .symbols .now) (c .before .before .before .serve .result) (c .before .before .before .serve .last .1 .1 .1 .0) (c .before .before .before .before .before .before .before .before .before .before .pre .0) (c .before .before .before .serve .ensures)
+int-n-requires c κs =
+    let served = c .before .before .before in
+    let asked = served .before .before .before in
+    let begun = asked .before .before .before .before in
+    let a = begun .args in
+    steps-ask (a .line) (a .octets .now) (a .device) (a .symbols .now) (served .serve .result) (served .serve .last .1 .1 .1 .0) (begun .pre .0) (served .serve .ensures)
 
 slice-reshare-prefix-print-outcome : tie.Need-slice-reshare-prefix-print-outcome
-slice-reshare-prefix-print-outcome c = steps-count (c .before .before .before .before .before .before .before .before .before .before .before .args .line) (c .before .before .before .before .before .before .before .before .before .before .before .args .octets .now) (c .before .before .before .before .before .before .before .before .before .before .before .args .device) (c .before .before .before .before .before .before .before .before .before .before .before .args .symbols .now) (c .before .before .before .before .serve .result) (c .before .before .before .before .serve .last .1 .1 .1 .0) (c .before .before .before .before .serve .kept .1 .1 .1 .0) (c .before .before .before .before .serve .ensures)
+slice-reshare-prefix-print-outcome c =
+    let served = c .before .before .before .before in
+    let asked = served .before .before .before in
+    let begun = asked .before .before .before .before in
+    let a = begun .args in
+    steps-count (a .line) (a .octets .now) (a .device) (a .symbols .now) (served .serve .result) (served .serve .last .1 .1 .1 .0) (served .serve .kept .1 .1 .1 .0) (served .serve .ensures)
 
 slice-aggregate-print-outcome : tie.Need-slice-aggregate-print-outcome
-slice-aggregate-print-outcome c = sym (length-take-le (c .before .before .before .before .before .serve .result .count) (c .before .before .before .before .before .serve .last .1 .1 .1 .0) (steps-count (c .before .before .before .before .before .before .before .before .before .before .before .before .args .line) (c .before .before .before .before .before .before .before .before .before .before .before .before .args .octets .now) (c .before .before .before .before .before .before .before .before .before .before .before .before .args .device) (c .before .before .before .before .before .before .before .before .before .before .before .before .args .symbols .now) (c .before .before .before .before .before .serve .result) (c .before .before .before .before .before .serve .last .1 .1 .1 .0) (c .before .before .before .before .before .serve .kept .1 .1 .1 .0) (c .before .before .before .before .before .serve .ensures)))
+slice-aggregate-print-outcome c =
+    let level = c .before in
+    let served = level .before .before .before .before in
+    let asked = served .before .before .before in
+    let begun = asked .before .before .before .before in
+    let a = begun .args in
+    sym (length-take-le (served .serve .result .count) _ (steps-count (a .line) (a .octets .now) (a .device) (a .symbols .now) (served .serve .result) (served .serve .last .1 .1 .1 .0) (served .serve .kept .1 .1 .1 .0) (served .serve .ensures)))
 
 print-outcome-requires : tie.Need-print-outcome-requires
 print-outcome-requires c κs = search needs
@@ -41,7 +63,15 @@ same-length-3 c = search needs
 
 returns-2 : tie.Need-returns-2
 returns-2 c =
-    acts-done (c .before .before .before .before .before .before .before .before .before .before .before .before .before .before .before .before .args .device) (c .before .before .before .before .before .before .before .before .before .before .before .before .before .before .before .before .args .line) _ (c .before .before .before .before .before .before .before .before .before .before .before .before .before .before .before .before .args .octets .now) (c .before .before .before .before .before .before .before .before .before .before .before .before .before .before .before .before .args .symbols .now) (c .before .before .before .before .before .before .before .before .before .before .before .before .before .before .before .before .args .out .now) _ (c .before .before .before .before .before .before .before .before .before .before .before .before .before .before .before .before .pre .3) _ _ (c .before .before .before .before .before .before .before .before .before .serve .last .1 .1 .1 .0) (c .before .before .before .before .before .before .before .before .before .serve .result) (c .before .before .before .before .before .before .before .before .before .before .before .before .before .before .before .before .pre .2) (c .before .before .before .before .before .before .before .before .before .serve .kept .1 .1 .1 .0 ∙ c .before .before .before .before .before .before .before .before .before .before .before .before .before .before .before .before .pre .2) _ (c .before .before .before .before .before .int-n .ensures) (sym (c .before .before .before .before .before .before .before .before .before .before .before .before .is-bad .ensures) ∙ c .before .before .before .before .before .before .before .before .before .before .before .if1 .left) (c .before .before .before .before .before .before .before .before .before .serve .ensures) (c .before .before .print-outcome .ensures)
+    let printed = c .before .before in
+    let level = printed .before .before .before in
+    let served = level .before .before .before .before in
+    let asked = served .before .before .before in
+    let begun = asked .before .before .before .before in
+    let a = begun .args in
+    acts-done (a .device) (a .line) _ (a .octets .now) (a .symbols .now) (a .out .now) _ (begun .pre .3) _ _
+    (served .serve .last .1 .1 .1 .0) (served .serve .result) (begun .pre .2) (served .serve .kept .1 .1 .1 .0 ∙ begun .pre .2) _
+    (level .int-n .ensures) (sym (asked .is-bad .ensures) ∙ served .before .before .if1 .left) (served .serve .ensures) (printed .print-outcome .ensures)
 
 pub act-spec : {M : Type 1} → statement M
 act-spec =

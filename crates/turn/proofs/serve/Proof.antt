@@ -34,7 +34,11 @@ enum-known-line-4 : tie.Need-enum-known-line-4
 enum-known-line-4 c = search needs
 
 slice-aggregate-hear-packet : tie.Need-slice-aggregate-hear-packet
-slice-aggregate-hear-packet c = sym (length-take-le _ (c .before .before .before .before .before .before .args .octets .now) (heard-within (c .before .before .before .before .before .before .args .line) _ _ (c .before .before .before .before .before .before .args .octets .now) (c .before .before .line4 .given .1) (c .before .before .before .before .before .before .pre .1)))
+slice-aggregate-hear-packet c =
+    let told = c .before .before in
+    let begun = told .before .before .before .before in
+    let a = begun .args in
+    sym (length-take-le _ (a .octets .now) (heard-within (a .line) _ _ (a .octets .now) (told .line4 .given .1) (begun .pre .1)))
 
 hear-packet-requires : tie.Need-hear-packet-requires
 hear-packet-requires c κs = search needs
@@ -46,34 +50,61 @@ same-length : tie.Need-same-length
 same-length c = search needs
 
 returns : tie.Need-returns
-returns c = serves-write (c .before .before .before .before .before .before .before .before .before .args .device) (c .before .before .before .before .before .before .before .before .before .args .line) (c .before .before .before .before .before .before .before .before .before .args .octets .now) (c .before .before .before .before .before .before .before .before .before .args .symbols .now) (c .before .before .before .before .before .before .before .before .before .pre .2) _ _ _ _ (c .before .before .before .before .before .line .given .1) (c .before .before .write .ensures)
+returns c =
+    let done = c .before .before in
+    let told = done .before .before .before in
+    let begun = told .before .before .before .before in
+    let a = begun .args in
+    serves-write (a .device) (a .line) (a .octets .now) (a .symbols .now) (begun .pre .2) _ _ _ _ (told .line .given .1) (done .write .ensures)
 
 same-length-2 : tie.Need-same-length-2
 same-length-2 c = search needs
 
 returns-2 : tie.Need-returns-2
-returns-2 c = serves-read (c .before .before .before .before .before .before .before .before .before .args .device) (c .before .before .before .before .before .before .before .before .before .args .line) (c .before .before .before .before .before .before .before .before .before .args .octets .now) (c .before .before .before .before .before .before .before .before .before .args .symbols .now) (c .before .before .before .before .before .before .before .before .before .pre .2) _ _ _ (c .before .before .before .before .before .line2 .given .1) (c .before .before .read .ensures)
+returns-2 c =
+    let done = c .before .before in
+    let told = done .before .before .before in
+    let begun = told .before .before .before .before in
+    let a = begun .args in
+    serves-read (a .device) (a .line) (a .octets .now) (a .symbols .now) (begun .pre .2) _ _ _ (told .line2 .given .1) (done .read .ensures)
 
 same-length-3 : tie.Need-same-length-3
 same-length-3 c = search needs
 
 returns-3 : tie.Need-returns-3
-returns-3 c = serves-pass (c .before .before .before .before .before .before .before .before .before .args .device) (c .before .before .before .before .before .before .before .before .before .args .line) (c .before .before .before .before .before .before .before .before .before .args .octets .now) (c .before .before .before .before .before .before .before .before .before .args .symbols .now) (c .before .before .before .before .before .before .before .before .before .pre .2) _ _ _ (c .before .before .before .before .before .line3 .given .1) (c .before .before .pass .ensures)
+returns-3 c =
+    let done = c .before .before in
+    let told = done .before .before .before in
+    let begun = told .before .before .before .before in
+    let a = begun .args in
+    serves-pass (a .device) (a .line) (a .octets .now) (a .symbols .now) (begun .pre .2) _ _ _ (told .line3 .given .1) (done .pass .ensures)
 
 same-length-4 : tie.Need-same-length-4
 same-length-4 c = search needs
 
 returns-4 : tie.Need-returns-4
-returns-4 c = serves-reset (c .before .before .before .before .before .before .before .before .args .device) (c .before .before .before .before .before .before .before .before .args .line) (c .before .before .before .before .before .before .before .before .args .octets .now) (c .before .before .before .before .before .before .before .before .args .symbols .now) (c .before .before .before .before .before .before .before .before .pre .2) _ _ (c .before .before .before .before .enum-told .given .1) (c .before .before .hear-hard-reset .ensures)
+returns-4 c =
+    let done = c .before .before in
+    let told = done .before .before in
+    let begun = told .before .before .before .before in
+    let a = begun .args in
+    serves-reset (a .device) (a .line) (a .octets .now) (a .symbols .now) (begun .pre .2) _ _ (told .enum-told .given .1) (done .hear-hard-reset .ensures)
 
 same-length-5 : tie.Need-same-length-5
 same-length-5 c = search needs
 
 returns-5 : tie.Need-returns-5
-returns-5 c = serves-packet (c .before .before .before .before .before .before .before .before .before .before .args .device) (c .before .before .before .before .before .before .before .before .before .before .args .line) (c .before .before .before .before .before .before .before .before .before .before .args .octets .now) (c .before .before .before .before .before .before .before .before .before .before .args .symbols .now) (c .before .before .before .before .before .before .before .before .before .before .pre .2) _ _ _ _ (c .before .before .before .before .before .before .line4 .given .1) (c .before .before .hear-packet .ensures)
+returns-5 c =
+    let done = c .before .before in
+    let told = done .before .before .before .before in
+    let begun = told .before .before .before .before in
+    let a = begun .args in
+    serves-packet (a .device) (a .line) (a .octets .now) (a .symbols .now) (begun .pre .2) _ _ _ _ (told .line4 .given .1) (done .hear-packet .ensures)
 
 returns-6 : tie.Need-returns-6
-returns-6 c = serves-none (c .before .before .before .before .args .device) (c .before .before .before .before .args .line) (c .before .before .before .before .args .octets .now) (c .before .before .before .before .args .symbols .now) (c .enum-told2 .given .1)
+returns-6 c =
+    let a = c .before .before .before .before .args in
+    serves-none (a .device) (a .line) (a .octets .now) (a .symbols .now) (c .enum-told2 .given .1)
 
 pub serve-spec : {M : Type 1} → statement M
 serve-spec =

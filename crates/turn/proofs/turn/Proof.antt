@@ -25,7 +25,8 @@ same-length c = search needs
 returns : tie.Need-returns
 returns c =
     let done = c .before .before in
-    let parse = done .before .before .before .before .before in
+    let lent = done .before .before in
+    let parse = lent .before .before .before in
     let test = parse .before .before in
     let a = test .before .before .before .before .args in
     takes-line _ (a .setup) (a .line .now) _ _ _ _ _ _ (sym (test .before .has-room .ensures) ∙ test .if1 .taken) (parse .parsed .ensures) (done .act .ensures)

@@ -1,7 +1,5 @@
--- The texts stand one after the other, each no longer than its room.
-use native.Mathlib.Omega.{arith}
+-- The texts stand one after the other.
 use borrow.Author.Needs.{needs}
-use Rattle.text.proofs.Texts.{few, octets-long}
 use Rattle.listing.proofs.Texts.{frame-line}
 use Rattle.listing.proofs.print.put_frame.Statement.{statement}
 use Rattle.listing.proofs.print.put_frame.Tie as tie
@@ -10,34 +8,16 @@ put-decimal-requires : tie.Need-put-decimal-requires
 put-decimal-requires c κs = search needs
 
 put-requires : tie.Need-put-requires
-put-requires c κs =
-    let place = c .before .before .before in
-    let begun = place .before .before .before .before in
-    omega (arith, few 20 (begun .args .place), place .put-decimal .ensures .next, place .put-decimal .kept .1 .1 .0)
+put-requires c κs = search needs
 
 put-decimal-requires-2 : tie.Need-put-decimal-requires-2
-put-decimal-requires-2 c κs =
-    let space = c .before .before .before in
-    let place = space .before .before .before .before in
-    let begun = place .before .before .before .before in
-    omega (arith, few 20 (begun .args .place), place .put-decimal .ensures .next, place .put-decimal .kept .1 .1 .0, space .put .ensures .next)
+put-decimal-requires-2 c κs = search needs
 
 put-octets-requires : tie.Need-put-octets-requires
-put-octets-requires c κs =
-    let kind = c .before .before .before in
-    let space = kind .before .before .before .before in
-    let place = space .before .before .before .before in
-    let begun = place .before .before .before .before in
-    omega (arith, few 20 (begun .args .place), place .put-decimal .ensures .next, place .put-decimal .kept .1 .1 .0, space .put .ensures .next, few 1 (begun .args .kind), kind .put-decimal2 .ensures .next, kind .put-decimal2 .kept .1 .1 .0)
+put-octets-requires c κs = search needs
 
 put-requires-2 : tie.Need-put-requires-2
-put-requires-2 c κs =
-    let octets = c .before .before .before in
-    let kind = octets .before .before .before .before in
-    let space = kind .before .before .before .before in
-    let place = space .before .before .before .before in
-    let begun = place .before .before .before .before in
-    omega (arith, few 20 (begun .args .place), place .put-decimal .ensures .next, place .put-decimal .kept .1 .1 .0, space .put .ensures .next, few 1 (begun .args .kind), kind .put-decimal2 .ensures .next, kind .put-decimal2 .kept .1 .1 .0, octets-long 33 (begun .args .octets .now) (begun .pre .0), octets .put-octets .ensures .next)
+put-requires-2 c κs = search needs
 
 same-length : tie.Need-same-length
 same-length c = search needs
@@ -49,7 +29,8 @@ returns c =
     let kind = octets .before .before .before .before in
     let space = kind .before .before .before .before in
     let place = space .before .before .before .before in
-    frame-line _ _ _ (place .put-decimal .ensures) (space .put .ensures) (kind .put-decimal2 .ensures) (octets .put-octets .ensures) (end .put2 .ensures)
+    let begun = place .before .before .before .before in
+    frame-line _ _ _ (begun .pre .0) (begun .pre .1) (place .put-decimal .ensures) (space .put .ensures) (kind .put-decimal2 .ensures) (octets .put-octets .ensures) (end .put2 .ensures)
 
 pub put-frame-spec : {M : Type 1} → statement M
 put-frame-spec =

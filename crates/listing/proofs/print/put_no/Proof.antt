@@ -1,7 +1,5 @@
--- The texts stand one after the other, each no longer than its room.
-use native.Mathlib.Omega.{arith}
+-- The texts stand one after the other.
 use borrow.Author.Needs.{needs}
-use Rattle.text.proofs.Texts.{few}
 use Rattle.listing.proofs.Texts.{no-line}
 use Rattle.listing.proofs.print.put_no.Statement.{statement}
 use Rattle.listing.proofs.print.put_no.Tie as tie
@@ -16,28 +14,13 @@ put-decimal-requires : tie.Need-put-decimal-requires
 put-decimal-requires c κs = search needs
 
 put-requires : tie.Need-put-requires
-put-requires c κs =
-    let number = c .before .before .before in
-    let word = number .before .before .before .before in
-    let begun = word .before .before .before .before in
-    omega (arith, word .put-text .ensures .next, word .put-text .kept .1 .0, few 2 (begun .args .number), number .put-decimal .ensures .next, number .put-decimal .kept .1 .1 .0)
+put-requires c κs = search needs
 
 put-decimal-requires-2 : tie.Need-put-decimal-requires-2
-put-decimal-requires-2 c κs =
-    let space = c .before .before .before in
-    let number = space .before .before .before .before in
-    let word = number .before .before .before .before in
-    let begun = word .before .before .before .before in
-    omega (arith, word .put-text .ensures .next, word .put-text .kept .1 .0, few 2 (begun .args .number), number .put-decimal .ensures .next, number .put-decimal .kept .1 .1 .0, space .put .ensures .next)
+put-decimal-requires-2 c κs = search needs
 
 put-requires-2 : tie.Need-put-requires-2
-put-requires-2 c κs =
-    let place = c .before .before .before in
-    let space = place .before .before .before .before in
-    let number = space .before .before .before .before in
-    let word = number .before .before .before .before in
-    let begun = word .before .before .before .before in
-    omega (arith, word .put-text .ensures .next, word .put-text .kept .1 .0, few 2 (begun .args .number), number .put-decimal .ensures .next, number .put-decimal .kept .1 .1 .0, space .put .ensures .next, few 20 (begun .args .place), place .put-decimal2 .ensures .next, place .put-decimal2 .kept .1 .1 .0)
+put-requires-2 c κs = search needs
 
 same-length : tie.Need-same-length
 same-length c = search needs
@@ -49,7 +32,7 @@ returns c =
     let space = place .before .before .before .before in
     let number = space .before .before .before .before in
     let word = number .before .before .before .before in
-    no-line _ _ (word .put-text .ensures) (number .put-decimal .ensures) (space .put .ensures) (place .put-decimal2 .ensures) (end .put2 .ensures)
+    no-line _ _ (word .before .before .before .before .pre) (word .put-text .ensures) (number .put-decimal .ensures) (space .put .ensures) (place .put-decimal2 .ensures) (end .put2 .ensures)
 
 pub put-no-spec : {M : Type 1} → statement M
 put-no-spec =

@@ -43,9 +43,7 @@ is-octet-requires : tie.Need-is-octet-requires Inv-loop μ-loop
 is-octet-requires c κs = search needs
 
 returns-2 : tie.Need-returns-2 Inv-loop μ-loop
-returns-2 c =
-    let long = c .before .before .before .before .before in
-    stray _ _ (long .before .before .loop .inv) (long .before .loop-test .taken) (long .if1 .left) _ (c .before .is-octet .ensures) (not-true _ (c .if2 .taken))
+returns-2 c = stray _ _ (search needs) (search needs) (search needs) _ (c .before .is-octet .ensures) (not-true _ (c .if2 .taken))
 
 add-i : tie.Need-add-i Inv-loop μ-loop
 add-i c = search needs
@@ -54,9 +52,7 @@ loop-less : tie.Need-loop-less Inv-loop μ-loop
 loop-less c = search needs
 
 loop-again : tie.Need-loop-again Inv-loop μ-loop
-loop-again c =
-    let long = c .before .before .before .before .before in
-    goes-on _ _ (long .before .before .loop .inv) (long .before .loop-test .taken) (long .if1 .left) _ (c .before .is-octet .ensures) (not-false _ (c .if2 .left))
+loop-again c = goes-on _ _ (search needs) (search needs) (search needs) _ (c .before .is-octet .ensures) (not-false _ (c .if2 .left))
 
 returns-3 : tie.Need-returns-3 Inv-loop μ-loop
 returns-3 c = through _ _ (c .before .loop .inv) (c .loop-test .left)

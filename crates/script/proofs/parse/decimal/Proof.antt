@@ -14,10 +14,10 @@ abbrev μ-loop : tie.MeasureT-loop
 μ-loop s v₀ i₀ v i = length s - i
 
 returns : tie.Need-returns Inv-loop μ-loop
-returns c = (too-few _ (c .if1 .taken), tt)
+returns c = record { says = too-few _ (c .if1 .taken); few = tt }
 
 returns-2 : tie.Need-returns-2 Inv-loop μ-loop
-returns-2 c = (too-many _ (c .if2 .taken), tt)
+returns-2 c = record { says = too-many _ (c .if2 .taken); few = tt }
 
 loop-holds : tie.Need-loop-holds Inv-loop μ-loop
 loop-holds c = begin _ (c .before .if1 .left) (c .if2 .left)
@@ -31,7 +31,7 @@ is-digit-requires c κs = tt
 returns-3 : tie.Need-returns-3 Inv-loop μ-loop
 returns-3 c =
     let o = c .before .before .before in
-    (stray _ _ _ (o .before .loop .inv) (o .loop-test .taken) _ (c .before .is-digit .ensures) (not-true _ (c .if3 .taken)), tt)
+    record { says = stray _ _ _ (o .before .loop .inv) (o .loop-test .taken) _ (c .before .is-digit .ensures) (not-true _ (c .if3 .taken)); few = tt }
 
 with-digit-requires : tie.Need-with-digit-requires Inv-loop μ-loop
 with-digit-requires c κs =
@@ -51,7 +51,7 @@ loop-again c =
     goes-on _ _ _ (o .before .loop .inv) (o .loop-test .taken) _ (test .before .is-digit .ensures) (not-false _ (test .if3 .left)) _ (c .with-digit .ensures)
 
 returns-4 : tie.Need-returns-4 Inv-loop μ-loop
-returns-4 c = (read _ _ _ (c .before .loop .inv) (c .loop-test .left), few _ _ _ (c .before .loop .inv))
+returns-4 c = record { says = read _ _ _ (c .before .loop .inv) (c .loop-test .left); few = few _ _ _ (c .before .loop .inv) }
 
 pub decimal-spec : {M : Type 1} → statement M
 decimal-spec =

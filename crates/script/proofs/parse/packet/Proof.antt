@@ -31,27 +31,27 @@ part-rest-end c = search needs
 are-octets-requires : tie.Need-are-octets-requires
 are-octets-requires c κs = search needs
 
-put-octets-requires : tie.Need-put-octets-requires
-put-octets-requires c κs =
+store-octets-requires : tie.Need-store-octets-requires
+store-octets-requires c κs =
     let looked = c .before .before in
     let known = looked .before .before .before in
     let counted = known .before .before in
     let digits = counted .before .before in
     let begun = digits .before .before .before in
-    (sym (looked .are-octets .ensures) ∙ c .before .if1 .taken, enough _ (begun .args .octets .now) _ (digits .digits-in .ensures .0) _ (is-count _ _ (counted .decimal .ensures .0) _ (known .kind .given .1)) (begun .pre .0) (begun .pre .1) (digits .digits-in .ensures .1))
+    (sym (looked .are-octets .ensures) ∙ c .before .if1 .taken, enough _ (begun .args .octets .now) _ (digits .digits-in .ensures .0) _ (is-count _ _ (counted .decimal .ensures .says) _ (known .kind .given .1)) (begun .pre .0) (begun .pre .1) (digits .digits-in .ensures .1))
 
 same-length : tie.Need-same-length
 same-length c = search needs
 
 returns : tie.Need-returns
 returns c =
-    let put = c .before .before in
-    let looked = put .before .before .before in
+    let stored = c .before .before in
+    let looked = stored .before .before .before in
     let known = looked .before .before .before in
     let counted = known .before .before in
     let digits = counted .before .before in
     let begun = digits .before .before .before in
-    all-heard _ _ _ (digits .digits-in .ensures .0) _ (is-count _ _ (counted .decimal .ensures .0) _ (known .kind .given .1)) (begun .pre .0) (begun .pre .1) (digits .digits-in .ensures .1) _ _ (sym (looked .are-octets .ensures) ∙ put .before .before .if1 .taken) (put .put-octets .ensures .0) (put .put-octets .ensures .1)
+    all-heard _ _ _ (digits .digits-in .ensures .0) _ (is-count _ _ (counted .decimal .ensures .says) _ (known .kind .given .1)) (begun .pre .0) (begun .pre .1) (digits .digits-in .ensures .1) _ _ (sym (looked .are-octets .ensures) ∙ stored .before .before .if1 .taken) (stored .store-octets .ensures .0) (stored .store-octets .ensures .1)
 
 enum-told : tie.Need-enum-told
 enum-told c = search needs
@@ -60,12 +60,12 @@ returns-2 : tie.Need-returns-2
 returns-2 c =
     let known = c .before .before .before .before in
     let counted = known .before .before in
-    no-octets _ _ _ (counted .before .before .digits-in .ensures .0) _ (is-count _ _ (counted .decimal .ensures .0) _ (known .kind .given .1)) (sym (c .before .are-octets .ensures) ∙ c .if1 .left)
+    no-octets _ _ _ (counted .before .before .digits-in .ensures .0) _ (is-count _ _ (counted .decimal .ensures .says) _ (known .kind .given .1)) (sym (c .before .are-octets .ensures) ∙ c .if1 .left)
 
 returns-3 : tie.Need-returns-3
 returns-3 c =
     let counted = c .before .before in
-    no-kind _ _ _ (counted .before .before .digits-in .ensures .0) (no-count _ _ (counted .decimal .ensures .0) (c .enum-told .given .1))
+    no-kind _ _ _ (counted .before .before .digits-in .ensures .0) (no-count _ _ (counted .decimal .ensures .says) (c .enum-told .given .1))
 
 pub packet-spec : {M : Type 1} → statement M
 packet-spec =
@@ -79,7 +79,7 @@ packet-spec =
     part-rest-start
     part-rest-end
     are-octets-requires
-    put-octets-requires
+    store-octets-requires
     same-length
     returns
     enum-told

@@ -87,7 +87,8 @@ time-requires c κs = search needs
 returns-6 : tie.Need-returns-6
 returns-6 c =
     let t = c .before .before in
-    let h = t .before .before .before .before .before in
+    let head = t .before .before in
+    let h = head .before .before .before in
     let r = h .before .before .before in
     let w = r .before .before .before in
     is-time _ _ (w .before .before .before .if1 .left) (sym (w .before .fits2 .ensures) ∙ w .if2 .left) (sym (r .before .fits3 .ensures) ∙ r .if3 .left) (sym (h .before .fits4 .ensures) ∙ h .if4 .left) _ (sym (t .before .fits5 .ensures) ∙ t .if6 .taken) (c .time .ensures)
@@ -114,7 +115,8 @@ returns-7 : tie.Need-returns-7
 returns-7 c =
     let p = c .before .before .before in
     let t = p .before .before .before in
-    let h = t .before .before .before .before .before in
+    let head = t .before .before in
+    let h = head .before .before .before in
     let r = h .before .before .before in
     let w = r .before .before .before in
     is-packet _ _ (w .before .before .before .if1 .left) (sym (w .before .fits2 .ensures) ∙ w .if2 .left) (sym (r .before .fits3 .ensures) ∙ r .if3 .left) (sym (h .before .fits4 .ensures) ∙ h .if4 .left) (sym (t .before .fits5 .ensures) ∙ t .if6 .left) _ _ (sym (p .before .fits6 .ensures) ∙ p .if7 .taken) (c .packet .ensures)
@@ -123,7 +125,8 @@ returns-8 : tie.Need-returns-8
 returns-8 c =
     let p = c in
     let t = p .before .before .before in
-    let h = t .before .before .before .before .before in
+    let head = t .before .before in
+    let h = head .before .before .before in
     let r = h .before .before .before in
     let w = r .before .before .before in
     other _ _ (w .before .before .before .if1 .left) (sym (w .before .fits2 .ensures) ∙ w .if2 .left) (sym (r .before .fits3 .ensures) ∙ r .if3 .left) (sym (h .before .fits4 .ensures) ∙ h .if4 .left) (sym (t .before .fits5 .ensures) ∙ t .if6 .left) (sym (p .before .fits6 .ensures) ∙ p .if7 .left)

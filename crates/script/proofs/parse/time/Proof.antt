@@ -18,10 +18,10 @@ enum-told : tie.Need-enum-told
 enum-told c = search needs
 
 returns : tie.Need-returns
-returns c = ap (λ (x : Option ℕ). lineOf (timed x)) (sym (is-count _ _ (c .before .before .before .decimal .ensures .0) _ (c .before .t .given .1)))
+returns c = ap (λ (x : Option ℕ). lineOf (timed x)) (sym (is-count _ _ (c .before .before .before .decimal .ensures .says) _ (c .before .t .given .1)))
 
 returns-2 : tie.Need-returns-2
-returns-2 c = ap (λ (x : Option ℕ). lineOf (timed x)) (sym (no-count _ _ (c .before .before .decimal .ensures .0) (c .enum-told .given .1)))
+returns-2 c = ap (λ (x : Option ℕ). lineOf (timed x)) (sym (no-count _ _ (c .before .before .decimal .ensures .says) (c .enum-told .given .1)))
 
 pub time-spec : {M : Type 1} → statement M
 time-spec = tie.close (tie.spec decimal-requires enum-known-t enum-told returns returns-2)

@@ -1,10 +1,7 @@
 -- The line is printed exactly where any has room.
 use mathlib.Core.Path.{sym, _∙_}
-use Prim.Native.Nat.{_+_}
-use native.Mathlib.Omega.{arith}
 use borrow.Author.Needs.{needs}
 use borrow.Author.Tests.{leb-true}
-use lib.ListN.{length}
 use Rattle.text.proofs.Texts.{printed, not-printed}
 use Rattle.script.proofs.print.print_bad.Statement.{statement}
 use Rattle.script.proofs.print.print_bad.Tie as tie
@@ -13,10 +10,7 @@ has-room-requires : tie.Need-has-room-requires
 has-room-requires c κs = search needs
 
 put-bad-requires : tie.Need-put-bad-requires
-put-bad-requires c κs =
-    let test = c .before in
-    let begun = test .before .before .before in
-    omega (arith, leb-true (begun .args .at + 227) (length (begun .args .out .now)) (sym (test .before .has-room .ensures) ∙ test .if1 .taken))
+put-bad-requires c κs = let test = c .before in leb-true _ _ (sym (test .before .has-room .ensures) ∙ test .if1 .taken)
 
 same-length : tie.Need-same-length
 same-length c = search needs

@@ -1,10 +1,7 @@
 -- The line is printed exactly where an event can have sent the symbols and any line has room.
 use mathlib.Core.Path.{sym, _∙_}
-use Prim.Native.Nat.{_+_}
-use native.Mathlib.Omega.{arith}
 use borrow.Author.Needs.{needs}
 use borrow.Author.Tests.{leb-true, le-leb, lt-leb}
-use lib.ListN.{length}
 use Rattle.text.proofs.Texts.{printed, not-printed}
 use Rattle.script.proofs.print.print_outcome.Statement.{statement}
 use Rattle.script.proofs.print.print_outcome.Tie as tie
@@ -16,10 +13,7 @@ has-room-requires : tie.Need-has-room-requires
 has-room-requires c κs = search needs
 
 put-outcome-requires : tie.Need-put-outcome-requires
-put-outcome-requires c κs =
-    let test = c .before in
-    let begun = test .before .before .before .before .before in
-    omega (arith, leb-true (begun .args .at + 227) (length (begun .args .out .now)) (sym (test .before .has-room .ensures) ∙ test .if2 .taken))
+put-outcome-requires c κs = let test = c .before in (search needs, leb-true _ _ (sym (test .before .has-room .ensures) ∙ test .if2 .taken))
 
 same-length : tie.Need-same-length
 same-length c = search needs

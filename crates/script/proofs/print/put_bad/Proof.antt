@@ -1,7 +1,5 @@
--- The texts stand one after the other, and a number has 8 digits at most.
-use native.Mathlib.Omega.{arith}
+-- The texts stand one after the other.
 use borrow.Author.Needs.{needs}
-use Rattle.text.proofs.Texts.{few}
 use Rattle.script.proofs.Texts.{bad-line}
 use Rattle.script.proofs.print.put_bad.Statement.{statement}
 use Rattle.script.proofs.print.put_bad.Tie as tie
@@ -16,10 +14,7 @@ put-decimal-requires : tie.Need-put-decimal-requires
 put-decimal-requires c κs = search needs
 
 put-requires : tie.Need-put-requires
-put-requires c κs =
-    let number = c .before .before .before in
-    let begun = number .before .before .before .before .before .before .before .before in
-    omega (arith, few 8 (begun .args .line), number .put-decimal .ensures .next, number .put-decimal .kept .1 .1 .0)
+put-requires c κs = search needs
 
 same-length : tie.Need-same-length
 same-length c = search needs
@@ -28,7 +23,8 @@ returns : tie.Need-returns
 returns c =
     let end = c .before .before in
     let number = end .before .before .before .before in
-    bad-line _ (number .before .before .before .before .put-text .ensures) (number .put-decimal .ensures) (end .put .ensures)
+    let word = number .before .before .before .before in
+    bad-line _ (word .before .before .before .before .pre) (word .put-text .ensures) (number .put-decimal .ensures) (end .put .ensures)
 
 pub put-bad-spec : {M : Type 1} → statement M
 put-bad-spec =

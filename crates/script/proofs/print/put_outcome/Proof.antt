@@ -1,9 +1,6 @@
--- The texts stand one after the other, each no longer than its room.
-use native.Mathlib.Omega.{arith}
+-- The texts stand one after the other.
 use borrow.Author.Needs.{needs}
-use Rattle.text.proofs.Texts.{octets-long}
-use Rattle.fusb302.specs.Serves.{replied}
-use Rattle.script.proofs.Texts.{short, outcome}
+use Rattle.script.proofs.Texts.{outcome}
 use Rattle.script.proofs.print.put_outcome.Statement.{statement}
 use Rattle.script.proofs.print.put_outcome.Tie as tie
 
@@ -11,37 +8,19 @@ put-reply-requires : tie.Need-put-reply-requires
 put-reply-requires c κs = search needs
 
 put-requires : tie.Need-put-requires
-put-requires c κs =
-    let reply = c .before .before .before in
-    let begun = reply .before .before .before .before in
-    omega (arith, short (replied (begun .args .reply)), reply .put-reply .ensures .next, reply .put-reply .kept .1 .0)
+put-requires c κs = search needs
 
 level-requires : tie.Need-level-requires
 level-requires c κs = search needs
 
 put-requires-2 : tie.Need-put-requires-2
-put-requires-2 c κs =
-    let space = c .before .before .before .before in
-    let reply = space .before .before .before .before in
-    let begun = reply .before .before .before .before in
-    omega (arith, short (replied (begun .args .reply)), reply .put-reply .ensures .next, reply .put-reply .kept .1 .0, space .put .ensures .next)
+put-requires-2 c κs = search needs
 
 put-octets-requires : tie.Need-put-octets-requires
-put-octets-requires c κs =
-    let level = c .before .before .before in
-    let space = level .before .before .before .before .before in
-    let reply = space .before .before .before .before in
-    let begun = reply .before .before .before .before in
-    omega (arith, short (replied (begun .args .reply)), reply .put-reply .ensures .next, reply .put-reply .kept .1 .0, space .put .ensures .next, level .put2 .ensures .next)
+put-octets-requires c κs = search needs
 
 put-requires-3 : tie.Need-put-requires-3
-put-requires-3 c κs =
-    let symbols = c .before .before .before in
-    let level = symbols .before .before .before .before in
-    let space = level .before .before .before .before .before in
-    let reply = space .before .before .before .before in
-    let begun = reply .before .before .before .before in
-    omega (arith, short (replied (begun .args .reply)), reply .put-reply .ensures .next, reply .put-reply .kept .1 .0, space .put .ensures .next, level .put2 .ensures .next, symbols .put-octets .ensures .next, octets-long 72 (begun .args .symbols .now) (begun .pre .0))
+put-requires-3 c κs = search needs
 
 same-length : tie.Need-same-length
 same-length c = search needs
@@ -50,10 +29,12 @@ returns : tie.Need-returns
 returns c =
     let end = c .before .before in
     let symbols = end .before .before .before .before in
-    let level = symbols .before .before .before .before in
-    let space = level .before .before .before .before .before in
+    let second = symbols .before .before .before .before in
+    let level = second .before .before in
+    let space = level .before .before .before in
     let reply = space .before .before .before .before in
-    outcome _ _ _ (reply .put-reply .ensures) (space .put .ensures) (level .before .before .level .ensures) (level .put2 .ensures) (symbols .put-octets .ensures) (end .put3 .ensures)
+    let begun = reply .before .before .before .before in
+    outcome _ _ _ (begun .pre .0) (begun .pre .1) (reply .put-reply .ensures) (space .put .ensures) (level .level .ensures) (second .put2 .ensures) (symbols .put-octets .ensures) (end .put3 .ensures)
 
 pub put-outcome-spec : {M : Type 1} → statement M
 put-outcome-spec =

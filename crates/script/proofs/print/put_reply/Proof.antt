@@ -41,25 +41,30 @@ same-length : tie.Need-same-length
 same-length c = search needs
 
 returns : tie.Need-returns
-returns c = let o = c .before .before in is-done _ (o .before .before .before .enum-told .given .1) (o .put-text .ensures)
+returns c =
+    let put = c .before .before in
+    let told = put .before .before .before in
+    is-done _ (told .before .before .before .pre) (told .enum-told .given .1) (put .put-text .ensures)
 
 same-length-2 : tie.Need-same-length-2
 same-length-2 c = search needs
 
 returns-2 : tie.Need-returns-2
 returns-2 c =
-    let o = c .before .before in
-    let p = o .before .before .before .before in
-    is-value _ _ (p .before .before .before .reply .given .1) (p .put .ensures) (o .put-octet .ensures)
+    let octet = c .before .before in
+    let sign = octet .before .before .before .before in
+    let told = sign .before .before .before in
+    is-value _ _ (told .before .before .before .pre) (told .reply .given .1) (sign .put .ensures) (octet .put-octet .ensures)
 
 same-length-3 : tie.Need-same-length-3
 same-length-3 c = search needs
 
 returns-3 : tie.Need-returns-3
 returns-3 c =
-    let o = c .before .before in
-    let p = o .before .before .before .before in
-    is-no _ _ (p .before .before .before .before .reply2 .given .1) (p .put-text2 .ensures) (o .put-decimal .ensures)
+    let number = c .before .before in
+    let word = number .before .before .before .before in
+    let told = word .before .before .before .before in
+    is-no _ _ (told .before .before .before .pre) (told .reply2 .given .1) (word .put-text2 .ensures) (number .put-decimal .ensures)
 
 pub put-reply-spec : {M : Type 1} → statement M
 put-reply-spec =

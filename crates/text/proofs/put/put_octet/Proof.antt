@@ -1,44 +1,28 @@
--- Two digits stand one after the other.
-use native.Mathlib.Omega.{arith}
+-- The two digits are laid exactly where they have room.
+use mathlib.Core.Path.{sym, _∙_}
 use borrow.Author.Needs.{needs}
-use lib.ListN.{length-set}
-use Rattle.text.proofs.Texts.{octet}
+use borrow.Author.Tests.{leb-true}
+use Rattle.text.proofs.Texts.{printed, not-printed}
 use Rattle.text.proofs.put.put_octet.Statement.{statement}
 use Rattle.text.proofs.put.put_octet.Tie as tie
 
-digit-requires : tie.Need-digit-requires
-digit-requires c κs = search needs
+has-room-requires : tie.Need-has-room-requires
+has-room-requires c κs = search needs
 
-slice-write-out : tie.Need-slice-write-out
-slice-write-out c = search needs
-
-digit-requires-2 : tie.Need-digit-requires-2
-digit-requires-2 c κs = search needs
-
-add-out : tie.Need-add-out
-add-out c = search needs
-
-slice-write-out-2 : tie.Need-slice-write-out-2
-slice-write-out-2 c = simp length-set (omega arith)
-
-add-result : tie.Need-add-result
-add-result c = search needs
+lay-octet-requires : tie.Need-lay-octet-requires
+lay-octet-requires c κs = leb-true _ _ (sym (c .before .before .has-room .ensures) ∙ c .before .if1 .taken)
 
 same-length : tie.Need-same-length
 same-length c = search needs
 
 returns : tie.Need-returns
-returns c = octet _ _ _ _ _ (c .before .digit .ensures) (c .digit2 .ensures)
+returns c =
+    let laid = c .before .before in
+    let test = laid .before .before in
+    printed (sym (test .before .has-room .ensures) ∙ test .if1 .taken) (laid .lay-octet .ensures)
+
+returns-2 : tie.Need-returns-2
+returns-2 c = not-printed _ _ _ (sym (c .before .has-room .ensures) ∙ c .if1 .left)
 
 pub put-octet-spec : {M : Type 1} → statement M
-put-octet-spec =
-    tie.close
-    (tie.spec
-    digit-requires
-    slice-write-out
-    digit-requires-2
-    add-out
-    slice-write-out-2
-    add-result
-    same-length
-    returns)
+put-octet-spec = tie.close (tie.spec has-room-requires lay-octet-requires same-length returns returns-2)

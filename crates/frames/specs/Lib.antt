@@ -1,2 +1,0 @@
--- What holds of a listing between characters.
-pub mod Holds
