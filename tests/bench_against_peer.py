@@ -4,10 +4,12 @@
     tests/bench_against_peer.py BENCH PEER [SEED]
 
 Long texts in form, with 1,200,000 events in all, histories made for one rule each, and 3,000 short damaged texts. Then how the
-bench ends when its output is closed or full, and when its input is left open, comes in pieces or cannot be read. Of the first
-text on which the two differ, the shortest beginning that shows it is kept under target/tests/.
+bench ends when its output is closed or full, and when its input is left open, comes in pieces or cannot be read; and whether each
+answer is there before the next line is given. Of the first text on which the two differ, the shortest beginning that shows it is
+kept under target/tests/.
 """
 import os
+import select
 import signal
 import subprocess
 import sys
@@ -261,6 +263,41 @@ def input_endings(bench, seed):
     os.close(folder)
 
 
+def awaited(run, length):
+    """So many octets of what a program prints while its input stays open, or fewer if no more come in time."""
+    printed, until = b'', time.monotonic() + SECONDS
+    while len(printed) < length and select.select([run.stdout], [], [], max(0, until - time.monotonic()))[0]:
+        piece = os.read(run.stdout.fileno(), 4096)
+        if not piece:
+            break
+        printed += piece
+    return printed
+
+
+def conversation(bench, seed):
+    """Each answer is there before more is given: the lines whole, octet by octet, and with a beginning of the next behind each."""
+    _, events = in_form('conversation of seed %d' % seed, 300)
+    setup = ['06 04', '03 21', '09 07']
+    due = answers([bench], input=joined(setup, events)).splitlines(keepends=True)
+    lines = [b'%d\n%s\n' % (len(setup), setup[0].encode()), *(line.encode() + b'\n' for line in setup[1:])]
+    lines += [b'%d\n%s\n' % (len(events), events[0].encode()), *(line.encode() + b'\n' for line in events[1:])]
+    for ahead, size in ((0, 4096), (0, 1), (3, 4096)):
+        text, ends = b''.join(lines), []
+        for line in lines:
+            ends.append((ends[-1] if ends else 0) + len(line))
+        with subprocess.Popen([bench], stdin=subprocess.PIPE, stdout=subprocess.PIPE, bufsize=0) as run:
+            given = 0
+            for end, answer in zip(ends, due):
+                for piece in in_pieces(text[given:end + ahead], [size]):
+                    run.stdin.write(piece)
+                given = min(end + ahead, len(text))
+                printed = awaited(run, len(answer))
+                if printed != answer:
+                    yield 'prints %r, not %r, before the line behind %r is given' % (printed, answer, text[:end][-12:])
+                    run.kill()
+                    return
+
+
 def in_order(tasks):
     """The results of tasks in their order; those after one that differs are left out."""
     for number, task in enumerate(tasks):
@@ -296,7 +333,7 @@ def main():
     wrong += [raw_difference(programs, name, text) for name, text in extremes().items() if differ(programs, text)]
     events = b'h\n' * 300_000
     endings = output_endings(programs[0], b'0\n9999999\n' + events, b'0\n300000\n' + events)
-    wrong += ['the bench ' + one for one in (*endings, *input_endings(programs[0], seed))]
+    wrong += ['the bench ' + one for one in (*endings, *input_endings(programs[0], seed), *conversation(programs[0], seed))]
     if not wrong and seen != DUE:
         wrong.append('the long texts never bring about: ' + ', '.join(sorted(DUE - seen)))
     if not wrong and not 0 < bad < DAMAGED:

@@ -9,7 +9,6 @@ pieces or not at all, and output that is closed or full. A record on which the t
 """
 import os
 import re
-import select
 import shutil
 import subprocess
 import sys
@@ -17,7 +16,7 @@ import time
 from collections import Counter
 from concurrent.futures import ThreadPoolExecutor
 
-from bench_against_peer import KEPT, NO_END, SECONDS, answers, first_difference, in_pieces, kept, left_open, output_endings
+from bench_against_peer import KEPT, NO_END, SECONDS, answers, awaited, first_difference, in_pieces, kept, left_open, output_endings
 from records import HARD_RESET, long_record, record
 from texts import in_form, joined
 
@@ -225,12 +224,7 @@ def slow_input(frames):
         for text, due in ((RESET, '0 5 -'), ('\n' + NAME, '4 1 ' + NAME_OCTETS), (' ' + RESET, '29 5 -'), ('\n18 18 11', 'no13 35')):
             run.stdin.write(text.encode())
             due = due.encode() + b'\n'
-            printed, until = b'', time.monotonic() + SECONDS
-            while len(printed) < len(due) and select.select([run.stdout], [], [], max(0, until - time.monotonic()))[0]:
-                piece = os.read(run.stdout.fileno(), 4096)
-                printed += piece
-                if not piece:
-                    break
+            printed = awaited(run, len(due))
             if printed != due:
                 yield 'prints %r for %r while the rest of its input is still to come' % (printed, text)
                 run.kill()

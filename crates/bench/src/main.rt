@@ -7,11 +7,12 @@ use script::print::print_bad;
 use stream::Input;
 use stream::Stream;
 use stream::begin;
-use stream::more;
+use stream::fill;
 use stream::room;
 use stream::stepped;
 use turn::turn;
 ghost use mathlib.Core.Path.{_≡_};
+ghost use mathlib.Core.Bool.{false};
 ghost use Prim.Native.Nat.{_+_, _≤_, _<_};
 ghost use lib.ListN.{length};
 ghost use Rattle.io.specs.Counts.{Counts};
@@ -19,44 +20,152 @@ ghost use Rattle.fusb302.specs.View.{Asks};
 ghost use Rattle.script.specs.Parse.{Few};
 ghost use Rattle.stream.specs.Ready.{InBuffer, Ready};
 
-pub struct Taken {
-    input: Input,
+// How far the octets read go toward a line: the place behind them, how many the line has, and whether it is whole.
+pub struct Piece {
+    at: usize,
     count: usize,
+    whole: bool,
 }
 
-// The next line without its LF; 256 octets of one that is longer than 255. At the end of the input it is empty.
-fn next_line(input: Input, buf: &mut [u8; 65536], line: &mut [u8]) -> Taken
-    requires { ⌜ InBuffer input × (length (now line) ≡ 256) ⌝ }
-    ensures { λ r. ⌜ InBuffer (r .input) × Counts (r .count) (now (line .exit)) ⌝ }
+// What is read of a line that has `from` octets so far: up to its LF, or 256 octets of one that is longer than 255.
+fn piece_of_line(input: Input, buf: &[u8; 65536], line: &mut [u8], from: usize) -> Piece
+    requires { ⌜ InBuffer input × (from ≤ 256) × (length (now line) ≡ 256) ⌝ }
+    ensures { λ r. ⌜ (r .at ≤ input .end) × (r .count ≤ 256) × (r .whole ≡ false → r .count + input .at ≡ from + input .end) ⌝ }
 {
-    let mut i = input;
-    let mut n = 0;
-    while n < 256 {
-        i = more(i, buf);
-        let at = i.at;
-        if at == i.end {
-            return Taken { input: i, count: n };
+    let end = input.end;
+    let mut at = input.at;
+    let mut n = from;
+    while at < end {
+        if n == 256 {
+            return Piece {
+                at,
+                count: n,
+                whole: true,
+            };
         }
         let b = buf[at];
-        i.at = at + 1;
+        at += 1;
         if b == b'\n' {
-            return Taken { input: i, count: n };
+            return Piece {
+                at,
+                count: n,
+                whole: true,
+            };
         }
         line[n] = b;
         n += 1;
     }
-    Taken { input: i, count: n }
+    Piece {
+        at,
+        count: n,
+        whole: false,
+    }
 }
 
-// A count that is missing or out of form ends the run.
+pub struct Taken {
+    stream: Stream,
+    count: usize,
+}
+
+// The rest of a line that has `from` octets so far. Before more is read, what is printed is handed over to be written, so that whoever
+// waits for an answer has it.
+fn rest_of_line(
+    stream: Stream,
+    from: usize,
+    buf: &mut [u8; 65536],
+    line: &mut [u8],
+    out: &[u8],
+) -> Taken
+    requires { ⌜ Ready stream × (from ≤ 256) × (length (now line) ≡ 256) ⌝ }
+    ensures { λ r. ⌜ Ready (r .stream) × Counts (r .count) (now (line .exit)) ⌝ }
+{
+    let mut s = stream;
+    let mut n = from;
+    while n < 256 {
+        s = fill(s, buf, out);
+        let input = s.input;
+        if input.at < input.end {
+            let piece = piece_of_line(input, buf, line, n);
+            n = piece.count;
+            let rest = Input {
+                at: piece.at,
+                end: input.end,
+            };
+            s.input = rest;
+            if piece.whole {
+                return Taken {
+                    stream: s,
+                    count: n,
+                };
+            }
+        } else {
+            return Taken {
+                stream: s,
+                count: n,
+            };
+        }
+    }
+    Taken {
+        stream: s,
+        count: n,
+    }
+}
+
+// The next line without its LF; 256 octets of one that is longer than 255. At the end of the input it is empty.
+fn next_line(stream: Stream, buf: &mut [u8; 65536], line: &mut [u8], out: &[u8]) -> Taken
+    requires { ⌜ Ready stream × (length (now line) ≡ 256) ⌝ }
+    ensures { λ r. ⌜ Ready (r .stream) × Counts (r .count) (now (line .exit)) ⌝ }
+{
+    let input = stream.input;
+    let piece = piece_of_line(input, buf, line, 0);
+    let mut end = input.end;
+    let mut at = piece.at;
+    let mut used = stream.used;
+    let mut on = stream.on;
+    let mut count = piece.count;
+    if !piece.whole {
+        let rest = Input { at, end };
+        let here = Stream {
+            input: rest,
+            used,
+            on,
+        };
+        let taken = rest_of_line(here, count, buf, line, out);
+        let left = taken.stream;
+        let after = left.input;
+        end = after.end;
+        at = after.at;
+        used = left.used;
+        on = left.on;
+        count = taken.count;
+    }
+    let stream = Stream {
+        input: Input { at, end },
+        used,
+        on,
+    };
+    Taken { stream, count }
+}
+
+// A count that is missing or out of form ends the run. Where output failed the run has ended, and nothing more is printed.
 fn bad(s: Stream, number: u32, out: &mut [u8]) -> Stream
     requires { ⌜ Ready s × (length (now out) ≡ 65536) ⌝ }
     ensures { λ r. ⌜ Ready r ⌝ }
 {
+    if !s.on {
+        return s;
+    }
     let r = room(s, BENCH_LINE_ROOM, out);
     let input = r.input;
     let used = print_bad(number, out, r.used);
     stepped(r, input, used, true)
+}
+
+// What is printed; nothing where output failed, since the run has ended and the line may be cut.
+fn kept(on: bool, used: usize) -> usize
+    ensures { λ r. ⌜ r ≤ used ⌝ }
+{
+    if on { used } else { 0 }
 }
 
 pub struct Ran {
@@ -79,11 +188,11 @@ fn one(
     requires { ⌜ Asks device × Ready stream × (length (now line) ≡ 256) × (length (now out) ≡ 65536) ⌝ }
     ensures { λ r. ⌜ Asks (r .device) × Ready (r .stream) ⌝ }
 {
-    let ready = room(stream, BENCH_LINE_ROOM, out);
-    let before = ready.input;
-    let taken = next_line(before, buf, line);
-    let input = taken.input;
+    let taken = next_line(stream, buf, line, out);
+    let left = taken.stream;
     let n = taken.count;
+    let ready = room(left, BENCH_LINE_ROOM, out);
+    let input = ready.input;
     let used = ready.used;
     let turned = turn(
         device,
@@ -96,7 +205,8 @@ fn one(
         used,
     );
     let device = turned.device;
-    let stream = stepped(ready, input, turned.at, turned.ends);
+    let printed = kept(ready.on, turned.at);
+    let stream = stepped(ready, input, printed, turned.ends);
     Ran { device, stream }
 }
 
@@ -153,14 +263,12 @@ pub struct Counted {
 }
 
 // A line of a count.
-fn count_line(mut stream: Stream, buf: &mut [u8; 65536], line: &mut [u8]) -> Counted
-    requires { ⌜ Ready stream × (length (now line) ≡ 256) ⌝ }
+fn count_line(before: Stream, buf: &mut [u8; 65536], line: &mut [u8], out: &[u8]) -> Counted
+    requires { ⌜ Ready before × (length (now line) ≡ 256) ⌝ }
     ensures { λ r. ⌜ Ready (r .stream) × Few (r .number) ⌝ }
 {
-    let before = stream.input;
-    let taken = next_line(before, buf, line);
-    let input = taken.input;
-    stream.input = input;
+    let taken = rest_of_line(before, 0, buf, line, out);
+    let stream = taken.stream;
     let n = taken.count;
     let number = decimal(&line[..n]);
     Counted { stream, number }
@@ -181,7 +289,7 @@ fn part(
     requires { ⌜ Asks device × Ready start × (number ≤ 10000000) × (length (now line) ≡ 256) × (length (now out) ≡ 65536) ⌝ }
     ensures { λ r. ⌜ Asks (r .device) × Ready (r .stream) × (r .last ≤ number + 10000000) ⌝ }
 {
-    let counted = count_line(start, buf, line);
+    let counted = count_line(start, buf, line, out);
     let stream = counted.stream;
     let first = number + 1;
     let said = counted.number;

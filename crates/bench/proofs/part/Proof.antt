@@ -1,7 +1,7 @@
 -- A count that is read is below ten million, and so is the number of its last line.
-use borrow.Author.Needs.{needs}
 use native.Mathlib.Omega.{arith}
 use Rattle.bench.proofs.Counting.{few-is}
+use borrow.Author.Needs.{needs}
 use Rattle.bench.proofs.part.Statement.{statement}
 use Rattle.bench.proofs.part.Tie as tie
 
@@ -16,26 +16,27 @@ enum-known-said c = search needs
 
 lines-requires : tie.Need-lines-requires
 lines-requires c κs =
-    let told = c .before .before .before in
-    let said = told .before .before .before in
-    let lent = said .before .before in
-    let counted = lent .before .before .before in
-    let start = counted .before .before in
+    let lent = c .before .before .before in
+    let said = lent .before .before .before in
+    let left = said .before .before in
+    let counted = left .before .before .before in
+    let start = counted .before .before .before in
     let begun = start .before .before .before in
     let few = few-is (counted .count-line .result .number) _ (counted .count-line .ensures .1) (said .said .given .1) in
     (begun .pre .0, counted .count-line .ensures .0, few, omega (arith, begun .pre .2), search (needs, begun .pre .3), search (needs, begun .pre .4))
 
-add-t30 : tie.Need-add-t30
-add-t30 c =
+add-t32 : tie.Need-add-t32
+add-t32 c =
     let ran = c .before .before .before in
     let lines = ran .before .before .before in
-    let called = lines .before .before .before .before in
-    let said = called .before .before .before in
-    let lent = said .before .before in
-    let counted = lent .before .before .before in
+    let lent = lines .before .before .before .before in
+    let said = lent .before .before .before in
+    let left = said .before .before in
+    let counted = left .before .before .before in
+    let start = counted .before .before .before in
+    let begun = start .before .before .before in
     let few = few-is (counted .count-line .result .number) _ (counted .count-line .ensures .1) (said .said .given .1) in
-    let start = counted .before .before in
-    omega (arith, few, start .before .before .before .pre .2)
+    omega (arith, few, begun .pre .2)
 
 enum-told : tie.Need-enum-told
 enum-told c = search needs
@@ -53,10 +54,10 @@ returns : tie.Need-returns
 returns c =
     let ran = c .before .before .before in
     let lines = ran .before .before .before in
-    let called = lines .before .before .before .before in
-    let said = called .before .before .before in
-    let lent = said .before .before in
-    let counted = lent .before .before .before in
+    let lent = lines .before .before .before .before in
+    let said = lent .before .before .before in
+    let left = said .before .before in
+    let counted = left .before .before .before in
     let few = few-is (counted .count-line .result .number) _ (counted .count-line .ensures .1) (said .said .given .1) in
     (lines .lines .ensures .0, lines .lines .ensures .1, omega (arith, few))
 
@@ -77,7 +78,7 @@ part-spec =
     add-first
     enum-known-said
     lines-requires
-    add-t30
+    add-t32
     enum-told
     bad-requires
     same-length
