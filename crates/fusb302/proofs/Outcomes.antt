@@ -1,16 +1,23 @@
 -- No second outcome, and each reply means one thing.
 -- Assumes nothing.
 use mathlib.Core.Path.{_≡_, refl, sym, ap, _∙_}
+use mathlib.Core.Bool.{Bool, not}
+use mathlib.Core.List.{List}
+use Prim.Native.Nat.{ℕ}
 use lib.ListN.{length}
 use Rattle.line.specs.Frame.{joined}
+use Rattle.machine.specs.Status.{intLow}
 use Rattle.machine.specs.Events as events
+use Rattle.machine.specs.Events.{Event}
 use Rattle.machine.specs.State.{State}
 use Rattle.machine.specs.Step.{Result, step}
+use Rattle.fusb302.specs.declared.device.Device.{Device}
+use Rattle.fusb302.specs.declared.device.Outcome.{Outcome}
 use Rattle.fusb302.specs.declared.device.Reply.{Reply}
 use Rattle.fusb302.specs.declared.device.Reply.the-variants.{Done, Value, No}
-use Rattle.fusb302.specs.Serves.{replied, overlaid}
-use Rattle.fusb302.specs.View.{view}
-use Rattle.fusb302.specs.Theorems.{OneMeaning, OneOutcome, ViewEnough, OnePowerUp, OneLevel}
+use Rattle.fusb302.specs.Serves.{replied, overlaid, Serves}
+use Rattle.fusb302.specs.View.{view, Asks}
+use Rattle.fusb302.specs.Theorems.{OneMeaning, Alike, OneOutcome, ViewEnough, OnePowerUp, OneLevel}
 
 -- the reply of a meaning
 pub replyOf : events.Reply → Reply
@@ -45,16 +52,21 @@ one-outcome e d before r s a b p q =
 
 -- a step is of what the device stands for, and of nothing else
 pub view-enough : ViewEnough
-view-enough e d c before r s a b x y v p q =
-    let step′ : step (view d) e ≡ step (view c) e = ap (λ (u : State). step u e) v in (
-      record {
-        reply = same-reply (p .reply) (q .reply) (ap (λ (z : Result). z .reply) step′);
-        count = p .count ∙ ap (λ (z : Result). length (joined (z .frames))) step′ ∙ sym (q .count);
-        state = p .state ∙ ap (λ (z : Result). z .state) step′ ∙ sym (q .state);
-        symbols = p .lent ∙ ap (λ (z : Result). overlaid (joined (z .frames)) before) step′ ∙ sym (q .lent);
-      },
-      (p .asks, q .asks),
-    )
+view-enough = record { events = events-alike; levels = λ d c r s v p q. p ∙ ap (λ (u : State). not (intLow u)) v ∙ sym q }
+  where
+    events-alike : (e : Event) (d c : Device) (before : List ℕ) (r s : Outcome) (a b : List ℕ)
+        → view d ≡ view c → Serves e d before r a → Serves e c before s b
+        → Alike r s a b × (Asks (r .device) × Asks (s .device))
+    events-alike e d c before r s a b v p q =
+        let same : step (view d) e ≡ step (view c) e = ap (λ (u : State). step u e) v in (
+          record {
+            reply = same-reply (p .reply) (q .reply) (ap (λ (z : Result). z .reply) same);
+            count = p .count ∙ ap (λ (z : Result). length (joined (z .frames))) same ∙ sym (q .count);
+            state = p .state ∙ ap (λ (z : Result). z .state) same ∙ sym (q .state);
+            symbols = p .lent ∙ ap (λ (z : Result). overlaid (joined (z .frames)) before) same ∙ sym (q .lent);
+          },
+          (p .asks, q .asks),
+        )
 
 pub one-power-up : OnePowerUp
 one-power-up d e p q = p .new ∙ sym (q .new)

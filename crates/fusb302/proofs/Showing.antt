@@ -53,12 +53,3 @@ module _ (d : Device) (arranged : Arranged d) where
   unfolding status1Of
   status1-is k a b c e pk pa pb pc pe =
       rw (held-length (d .rx) (arranged .rx), queued-length (d .tx) (arranged .tx)) (omega arith)
-
--- ---- INT_N
-
--- by its four tests
-pub int-n-is : (d : Device) (m a b x : Bool) → m ≡ has INT-MASK (getD (d .cells) 4 0) → a ≡ unmasked (d .ints .a) (getD (d .cells) 12 0)
-    → b ≡ unmasked (d .ints .b) (getD (d .cells) 13 0) → x ≡ unmasked (d .ints .main) (getD (d .cells) 8 0)
-    → not (intLow (view d)) ≡ not (not m && (a || (b || x)))
-unfolding intLow cell
-int-n-is d m a b x pm pa pb px = rw (← pm, ← pa, ← pb, ← px) refl

@@ -55,7 +55,7 @@ use Rattle.fusb302.specs.declared.fifo.Fifo.{Fifo}
 use Rattle.fusb302.specs.declared.device.Status.{Status}
 use Rattle.fusb302.specs.declared.device.Request.{Request}
 use Rattle.fusb302.specs.declared.device.Device.{Device}
-use Rattle.fusb302.specs.declared.device.Reply.the-variants.{Done, No}
+use Rattle.fusb302.specs.declared.device.Reply.the-variants.{No}
 use Rattle.fusb302.specs.declared.device.Outcome.{Outcome}
 use Rattle.fusb302.specs.Queued.{queued, Kept}
 use Rattle.fusb302.specs.Held.{held, Sound}

@@ -30,12 +30,14 @@ OneOutcome =
     → Serves e d before r a → Serves e d before s b
     → Alike r s a b × ((n : ℕ) → r .reply ≡ No n → r .device ≡ s .device)
 
--- the view is enough: devices that stand for one state answer any event alike, stand for one state again, and may be asked again
-abbrev pub ViewEnough : Type 0
-ViewEnough =
-    (e : Event) (d c : Device) (before : List ℕ) (r s : Outcome) (a b : List ℕ)
-    → Asks d → Asks c → view d ≡ view c → Serves e d before r a → Serves e c before s b
-    → Alike r s a b × (Asks (r .device) × Asks (s .device))
+-- the view is enough: devices that stand for one state answer any event alike, stand for one state again and may be asked again,
+-- and have one level of INT_N
+pub record ViewEnough : Type 0 where
+  pub events :
+      (e : Event) (d c : Device) (before : List ℕ) (r s : Outcome) (a b : List ℕ)
+      → view d ≡ view c → Serves e d before r a → Serves e c before s b
+      → Alike r s a b × (Asks (r .device) × Asks (s .device))
+  pub levels : (d c : Device) (r s : Bool) → view d ≡ view c → Level d r → Level c s → r ≡ s
 
 abbrev pub OnePowerUp : Type 0
 OnePowerUp = (d e : Device) → PoweredUp d → PoweredUp e → view d ≡ view e

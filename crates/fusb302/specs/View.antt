@@ -3,14 +3,11 @@
 use mathlib.Core.Path.{_≡_}
 use mathlib.Core.Bool.{Bool, true, false, not, cond}
 use mathlib.Core.Option.{Option, none, some}
-use Prim.Native.Nat.{ℕ}
 use lib.ListN.{length}
 use Rattle.machine.specs.State as machine
 use Rattle.machine.specs.State.{Phase, message, softReset, State, powerUp}
 use Rattle.machine.specs.Status.{intLow}
 use Rattle.machine.specs.Good.{Good}
-use Rattle.fusb302.specs.declared.queue.Queue.{Queue}
-use Rattle.fusb302.specs.declared.fifo.Fifo.{Fifo}
 use Rattle.fusb302.specs.declared.device.Status.{Status}
 use Rattle.fusb302.specs.declared.device.Ints.{Ints}
 use Rattle.fusb302.specs.declared.device.Request.{Request}

@@ -1,8 +1,8 @@
 // Message headers: those the device builds, and the fields of those it hears (01, 'Line code (PD)', header).
 ghost use mathlib.Core.Path.{_≡_};
-ghost use Prim.Native.Nat.{_+_, _*_, _≤_, _<_};
-ghost use lib.ListN.{length, getD};
-ghost use Rattle.machine.specs.Headers.{header, twoOctets, heardHeader, typeOf, messageId, objects, isControl};
+ghost use Prim.Native.Nat.{_≤_, _<_};
+ghost use lib.ListN.{length};
+ghost use Rattle.machine.specs.Headers.{header, twoOctets, heardHeader, messageId, isControl};
 
 pub(crate) const GOOD_CRC: u8 = 1;
 

@@ -52,7 +52,7 @@ pub(crate) fn four_octets(n: u32) -> [u8; 4]
 }
 
 // The number of four octets, the least significant first.
-fn joined(a: u8, b: u8, c: u8, d: u8) -> u32
+fn number_of(a: u8, b: u8, c: u8, d: u8) -> u32
     ensures { λ r. ⌜ r ≡ a + 256 * b + 65536 * c + 16777216 * d ⌝ }
 {
     a as u32 + 256 * (b as u32) + 65536 * (c as u32) + 16777216 * (d as u32)
@@ -67,5 +67,5 @@ pub fn right(octets: &[u8]) -> bool
     }
     let n = octets.len() - 4;
     let c = crc(&octets[..n]);
-    c == joined(octets[n], octets[n + 1], octets[n + 2], octets[n + 3])
+    c == number_of(octets[n], octets[n + 1], octets[n + 2], octets[n + 3])
 }

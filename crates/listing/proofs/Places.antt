@@ -29,9 +29,6 @@ drawn-few {s} (Shaped.alone h k e) = omega (arith, length-alone s h, set-length 
 
 -- ---- the record ends inside a frame
 
-pub short-place : (w : List ℕ) (q : ℕ) → first w ≡ tooShort q → q ≡ length w
-short-place w q e = too-short-exactly w q .0 e .1
-
 pub short-few : (w : List ℕ) (q : ℕ) → first w ≡ tooShort q → length w < windowRoom
 short-few w q e =
     let c = too-short-exactly w q .0 e .0 in

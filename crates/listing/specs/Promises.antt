@@ -11,6 +11,7 @@ use Rattle.listing.specs.declared.form.Scan.{Scan}
 use Rattle.listing.specs.declared.form.Scan.the-variants.{Begin, Digit, Symbol, Line, Space, Broken}
 use Rattle.listing.specs.declared.Listing.{Listing}
 use Rattle.listing.specs.declared.Fed.{Fed}
+use Rattle.line.specs.Write.{frameRoom}
 use Rattle.text.specs.Put.{hasRoom, Prints}
 use Rattle.listing.specs.Lines.{frameLineRoom}
 use Rattle.listing.specs.Scans.{formAfter}
@@ -18,7 +19,7 @@ use Rattle.listing.specs.Steps.{ListingState, emptyState, Step, goes, st
 
 -- the longest frame
 abbrev pub windowRoom : ℕ
-windowRoom = 73
+windowRoom = frameRoom
 
 -- fewer symbols are held than the longest frame has, and all are counted in 64 bits: so is every listing that calls lead to
 pub record Right (l : Listing) : Type 0 where

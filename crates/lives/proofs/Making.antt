@@ -1,6 +1,6 @@
 -- For every good state of the machine there is a device that stands for it, and so an outcome of every call.
 -- Assumes nothing.
-use mathlib.Core.Path.{_≡_, refl, sym, ap, _∙_, subst}
+use mathlib.Core.Path.{_≡_, refl, sym, ap, subst}
 use mathlib.Core.Bool.{Bool, true, false}
 use mathlib.Core.List.{List, [], _∷_, _++_}
 use mathlib.Core.Option.{Option, none, some}
@@ -22,8 +22,6 @@ use Rattle.machine.specs.Step.{resultOf, step, accepted, replyTo}
 use Rattle.machine.specs.Good.{AllWithin, KindGood, Good}
 use Rattle.machine.proofs.Keeping.{power-up-good}
 use Rattle.machine.proofs.Staying.{stays-good}
-use Rattle.fusb302.specs.declared.queue.Queue.{Queue}
-use Rattle.fusb302.specs.declared.fifo.Fifo.{Fifo}
 use Rattle.fusb302.specs.declared.device.Status.{Status}
 use Rattle.fusb302.specs.declared.device.Request.{Request}
 use Rattle.fusb302.specs.declared.device.Device.{Device}
@@ -31,7 +29,7 @@ use Rattle.fusb302.specs.declared.device.Reply.the-variants.{No}
 use Rattle.fusb302.specs.declared.device.Outcome.{Outcome}
 use Rattle.fusb302.specs.Queued.{sopKind}
 use Rattle.fusb302.specs.View.{phaseOf, requestOf, view, Arranged, Asks, PoweredUp}
-use Rattle.fusb302.specs.Serves.{overlaid, Serves}
+use Rattle.fusb302.specs.Serves.{overlaid}
 use Rattle.fusb302.proofs.Serving.{serves-no, serves-yes}
 use Rattle.fusb302.proofs.Outcomes.{replyOf, meant-back}
 use Rattle.lives.specs.Theorems.{Answered}

@@ -16,7 +16,6 @@ use Rattle.machine.specs.State.{
   Status,
   Interrupts,
   State,
-  powerUp,
   withCells,
   withTx,
   withRx,

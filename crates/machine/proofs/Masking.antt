@@ -1,15 +1,15 @@
 -- The masks change nothing of a step: no test, no effect and no refusal reads them.
 -- Assumes nothing.
-use mathlib.Core.Path.{_≡_, refl, sym, ap, ap₂, _∙_}
-use mathlib.Core.Bool.{Bool, true, false, not, cond, _&&_, _||_, true≢false}
+use mathlib.Core.Path.{_≡_, refl, sym, ap, _∙_}
+use mathlib.Core.Bool.{Bool, true, false, cond, _||_, true≢false}
 use mathlib.Core.List.{List, [], _∷_, _++_}
 use mathlib.Core.Option.{Option, none, some}
 use Prim.Native.Nat.{ℕ, zero, suc, _+_, _-_}
 use native.Mathlib.Omega.{arith}
 use borrow.Author.Tests.{eqb-false}
 use lib.Bits.{bitAnd}
-use lib.Dec.{ltb, leb, eqb}
-use lib.ListN.{length, getD, set, drop}
+use lib.Dec.{ltb, eqb}
+use lib.ListN.{getD, set, drop}
 use lib.Seq.{set-set, set-comm, getD-set-other}
 use Rattle.line.specs.Frame.{Frame}
 use Rattle.line.specs.Crc.{crcRight}
@@ -46,13 +46,8 @@ use Rattle.machine.specs.State.{
   withRx,
   withTx,
   withKind,
-  withCrcChk,
   withInts,
-  withRequest,
-  shows,
-  hides,
   raises,
-  raisesA,
   raisesB,
 }
 use Rattle.machine.specs.Status.{txFull, rxFull, status1aOf, status0Of, status1Of, clearedAt, I-ALERT, I-GCRCSENT}
@@ -64,7 +59,6 @@ use Rattle.machine.specs.Requests.{
   sends,
   sendsIf,
   wait,
-  failBits,
   latched,
   start,
   over,
@@ -72,8 +66,6 @@ use Rattle.machine.specs.Requests.{
   sendHardReset,
   hardResetHeard,
   flight,
-  flightIn,
-  goesOn,
   messageFails,
   softFails,
   fails,
@@ -85,7 +77,7 @@ use Rattle.machine.specs.Packets.{kindOn, fitsRx, awaited, awaitedBy, re
 use Rattle.machine.specs.Events.{Event, write, read, pass, hardReset, packet, value, onRead}
 use Rattle.machine.specs.Refusals.{portStart, starts, toBeStored, queueAt, no12, no1, no2, no6, no3, no5, no4, no7, no8, no11, no9, no10, refusal}
 use Rattle.machine.specs.Step.{restored, pdReset, queues, control0Written, control1Written, control3Written, resetWritten, portWritten, commands, writes, afterRead, readValue, accepted, replyTo, resultOf, step}
-use Rattle.machine.specs.Theorems.{withoutMasks, SameButMasks, isMask, MasksOnlyMask}
+use Rattle.machine.specs.Theorems.{SameButMasks, isMask, MasksOnlyMask}
 
 -- ---- cells
 

@@ -16,13 +16,12 @@ use Rattle.line.specs.Refusal.{firstNo}
 use Rattle.line.specs.Write.{frameRoom}
 use Rattle.line.specs.Kind.{common, kindFrom}
 use Rattle.machine.specs.Registers.{control0, cell, stored, has, fifos, TX-FLUSH, TX-START}
-use Rattle.machine.specs.State.{Phase, message, softReset, Request, State, withCells, withRequest, hides, shows, raisesA}
+use Rattle.machine.specs.State.{message, softReset, Request, State, withCells, withRequest, hides, shows, raisesA}
 use Rattle.machine.specs.Status.{RETRYFAIL, SOFTFAIL, I-RETRYFAIL, I-SOFTFAIL, I-HARDSENT}
 use Rattle.machine.specs.Queue.{START, inside, isSome, spelt, speltBy}
 use Rattle.machine.specs.Requests.{
   Effect,
   silent,
-  sends,
   sendsIf,
   wait,
   hardReset,
@@ -44,7 +43,7 @@ use Rattle.machine.specs.Packets.{onlyIf}
 use Rattle.machine.specs.Events.{Event, write, pass}
 use Rattle.machine.specs.Refusals.{txStart, portStart, starts, no12, no1, no2, no6, no3, no5, no4, no7, no8, no11, no9, no10, refusal}
 use Rattle.machine.specs.Step.{control0Written, portWritten, commands, writes, accepted, resultOf, step, after, frames}
-use Rattle.machine.proofs.Masks.{Set, set-by, set-other, within-and, outside}
+use Rattle.machine.proofs.Masks.{set-by, set-other, within-and, outside}
 use Rattle.machine.specs.Theorems.{
   passing,
   AllParts,
@@ -53,7 +52,7 @@ use Rattle.machine.specs.Theorems.{
   sequel,
   Started,
   SentToTheEnd,
-  Shows,
+  ComesTo,
   FailsExactly,
 }
 
@@ -369,7 +368,7 @@ module _ (s : State) (f : Frame) (t : State) (o : Opened s t f) where
   abbrev i : ℕ
   i = o .base .ints .a
 
-  sending-shows : (r : Request) → Shows s (withRequest (some r) (o .base)) false false false true
+  sending-shows : (r : Request) → ComesTo s (withRequest (some r) (o .base)) false false false true
   sending-shows r =
       record {
         retryfail = has-none RETRYFAIL x (o .retryfail);
@@ -381,7 +380,7 @@ module _ (s : State) (f : Frame) (t : State) (o : Opened s t f) where
         request = refl;
       }
 
-  failed-shows : (r : Option Request) → Shows s (withRequest r (failed (o .base))) true false false (isSome r)
+  failed-shows : (r : Option Request) → ComesTo s (withRequest r (failed (o .base))) true false false (isSome r)
   failed-shows r =
       record {
         retryfail = has-set x RETRYFAIL;
@@ -393,7 +392,7 @@ module _ (s : State) (f : Frame) (t : State) (o : Opened s t f) where
         request = refl;
       }
 
-  soft-shows : Shows s (softFailed (failed (o .base))) true true false false
+  soft-shows : ComesTo s (softFailed (failed (o .base))) true true false false
   soft-shows =
       let m = failed-shows none in
       let y = bitOr x RETRYFAIL in
@@ -408,7 +407,7 @@ module _ (s : State) (f : Frame) (t : State) (o : Opened s t f) where
         request = refl;
       }
 
-  hard-shows : Shows s (raisesA I-HARDSENT (softFailed (failed (o .base)))) true true true false
+  hard-shows : ComesTo s (raisesA I-HARDSENT (softFailed (failed (o .base)))) true true true false
   hard-shows =
       let m = soft-shows in
       let k = bitOr (bitOr i I-RETRYFAIL) I-SOFTFAIL in
@@ -426,7 +425,7 @@ module _ (s : State) (f : Frame) (t : State) (o : Opened s t f) where
     -- by whether the time of the message and that of the Soft_Reset are over
     abbrev ShowsBy : State → Bool → Bool → Type 0
     ShowsBy u first second =
-        Shows s u first (second && q .soft) ((second && q .soft) && q .hard) (not first || (q .soft && not (second && q .soft)))
+        ComesTo s u first (second && q .soft) ((second && q .soft) && q .hard) (not first || (q .soft && not (second && q .soft)))
 
     stage-shows : {n : ℕ} {u : State} {fs : List Frame} → Stage q f (o .base) n u fs → ShowsBy u (leb (endOf q) n) (leb (endOf q + endOf q) n)
     stage-shows (sending k w {n} few short is) =

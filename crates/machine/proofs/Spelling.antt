@@ -163,9 +163,6 @@ octets-left : (a b : List ℕ) → Octets (a ++ b) → Octets a
 octets-left [] b o = tt
 octets-left (x ∷ a) b o = (o .0, octets-left a b (o .1))
 
-pub spelt-sop : (q : List ℕ) (f : Frame) → spelt q ≡ some f → f .kind < sopKinds
-spelt-sop q f e = spells q f e .sop
-
 pub spelt-whole : (q : List ℕ) (f : Frame) → Octets q → spelt q ≡ some f → Whole f
 spelt-whole q f o e =
     let s = spells q f e in

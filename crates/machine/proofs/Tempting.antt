@@ -13,7 +13,6 @@ use lib.ListN.{getD}
 use Rattle.line.specs.Frame.{Frame}
 use Rattle.line.specs.Crc.{crcRight}
 use Rattle.line.specs.Refusal.{firstNo}
-use Rattle.line.specs.Write.{frameRoom}
 use Rattle.machine.specs.Registers.{storedBits, cell, switches1, has}
 use Rattle.machine.specs.State.{Phase, message, softReset, Request, State, reg, withCells, withTx, withRx, withRequest, withKind, shows, raises, raisesA, raisesB}
 use Rattle.machine.specs.Status.{txFull, rxFull, RETRYFAIL, I-RETRYFAIL, I-ALERT, I-TXSENT, I-SOFTRST, I-GCRCSENT, I-CRC-CHK}

@@ -196,7 +196,7 @@ sequel q =
     (replicate (suc (q .retries)) (softResetOf q) ++ cond (q .hard) (hardReset ∷ []) [])
     []
 
--- while nobody answers, one frame leaves at the start and one at each 1,000 microseconds: the message r + 1 times, and then its sequel
+-- while nothing but time passes, one frame leaves at the start and one at each 1,000 microseconds: the message r + 1 times, and then its sequel
 abbrev pub SentToTheEnd : Type 0
 SentToTheEnd =
     (s : State) (e : Event) (f : Frame) (room : ℕ) (ns : List ℕ) → frameRoom ≤ room → AllParts ns → Started s e f
@@ -205,7 +205,7 @@ SentToTheEnd =
 
 -- what a start in s has come to in t: whether the message failed, the Soft_Reset failed, a Hard Reset left, and the request is open;
 -- of the interrupts, those that were set before stay, and no other is set
-pub record Shows (s t : State) (failed softFailed hardSent goesOn : Bool) : Type 0 where
+pub record ComesTo (s t : State) (failed softFailed hardSent goesOn : Bool) : Type 0 where
   pub retryfail : has RETRYFAIL (t .status .status0a) ≡ failed
   pub softfail : has SOFTFAIL (t .status .status0a) ≡ softFailed
   pub i-retryfail : has I-RETRYFAIL (t .ints .a) ≡ (failed || has I-RETRYFAIL (s .ints .a))
@@ -222,7 +222,7 @@ FailsExactly =
     let end = suc (q .retries) * wait in
     let failed = leb end (inAll ns) in
     let softFailed = leb (end + end) (inAll ns) && q .soft in
-    Shows s (after s (e ∷ passing room ns)) failed softFailed (softFailed && q .hard) (not failed || (q .soft && not softFailed))
+    ComesTo s (after s (e ∷ passing room ns)) failed softFailed (softFailed && q .hard) (not failed || (q .soft && not softFailed))
 
 -- ---- 6. Models that 01 shuts out ('How tight each promise is')
 

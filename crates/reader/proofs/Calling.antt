@@ -1,16 +1,14 @@
 -- A reader's step is the cursor's read at its place and holds the record, so calls of the one are calls of the other; with room each tells what the record begins with there, and that is the walk's next.
 -- Assumes nothing.
 use mathlib.Core.Path.{_≡_, refl, sym, ap, _∙_, subst}
-use mathlib.Core.Bool.{Bool, cond}
 use mathlib.Core.List.{List, [], _∷_}
-use Prim.Native.Nat.{ℕ, _+_, _≤_}
+use Prim.Native.Nat.{ℕ, _+_}
 use lib.ListN.{length, drop}
 use lib.Seq.{drop-drop}
 use denote.Ref.{RefT, now}
-use Rattle.line.specs.declared.read.Answer.{Answer}
 use Rattle.line.specs.Frame.{drawn, joined}
 use Rattle.line.specs.Read.{First, frame, wrongCrc, tooShort, noFrame, first}
-use Rattle.line.specs.Reader.{octetRoom, no, said, behind, saysOf, filled, Tells, Reads}
+use Rattle.line.specs.Reader.{said, behind, saysOf, Tells}
 use Rattle.reader.specs.declared.Reader.{Reader}
 use Rattle.reader.specs.Step.{unread}
 use Rattle.reader.specs.Walk.{Walked, ends, before, onward, walk}

@@ -7,13 +7,10 @@ use Prim.Native.Nat.{ℕ}
 use Rattle.stream.specs.declared.Input.{Input}
 use Rattle.stream.specs.declared.Stream.{Stream}
 use Rattle.stream.specs.Promises.{ReadsMore}
-use Rattle.stream.specs.Theorems.{OneBeginning, OneMore, OneWritten, OneMaking, OneFilling, OneStepping}
+use Rattle.stream.specs.Theorems.{OneBeginning, OneWritten, OneMaking, OneFilling, OneFillingRead, OneStepping}
 
 pub one-beginning : OneBeginning
 one-beginning r s p q = p ∙ sym q
-
-pub one-more : OneMore
-one-more i r q before a b e x y = (x .stood e .0 ∙ sym (y .stood e .0), x .stood e .1 ∙ sym (y .stood e .1))
 
 -- a stream by its parts
 parts : (r q : Stream) → r .input ≡ q .input → r .used ≡ q .used → r .on ≡ q .on → r ≡ q
@@ -41,6 +38,10 @@ one-filling false s r q before a c x y o off =
     let left = unread (r .on) (s .input) (r .input) before a (off refl) (x .input) in
     let right = unread (q .on) (s .input) (q .input) before c (sym o ∙ off refl) (y .input) in
     (parts r q (left .0 ∙ sym (right .0)) (x .used ∙ sym (y .used)) o, left .1 ∙ sym (right .1))
+
+pub one-filling-read : OneFillingRead
+one-filling-read s r q before a c p x on on′ =
+    (p .used ∙ sym (x .used), p .input .came (ap not on) .0 ∙ sym (x .input .came (ap not on′) .0))
 
 pub one-stepping : OneStepping
 one-stepping s input used ends r q x y = x .leaves ∙ sym (y .leaves)

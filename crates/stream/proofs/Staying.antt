@@ -17,7 +17,7 @@ use Rattle.stream.specs.Theorems.{StaysReady, RoomIsMade}
 pub begin-ready : (r : Stream) → BeginsFresh r → Ready r
 begin-ready r e = subst Ready (sym e) (record { input = (omega arith, omega arith); output = omega arith })
 
-pub more-inside : (b : Bool) {i r : Input} {before after : List ℕ} → InBuffer i → ReadsMore b i before r after → InBuffer r
+more-inside : (b : Bool) {i r : Input} {before after : List ℕ} → InBuffer i → ReadsMore b i before r after → InBuffer r
 more-inside true h p = rw (p .stood refl .0) h
 more-inside false h p = let z = p .came refl .0 in let n = p .came refl .1 in (omega arith, n)
 
@@ -44,7 +44,7 @@ pub stepped-ready : (s : Stream) (input : Input) (used : ℕ) (ends : Bool) (r :
 stepped-ready s input used ends r h k p = subst Ready (sym (p .leaves)) (record { input = h; output = k })
 
 pub stays-ready : StaysReady
-stays-ready = record { begin = begin-ready; more = λ i r before after. more-inside (octetWaits i); written = written-ready; room = room-ready; fill = fill-ready; stepped = stepped-ready }
+stays-ready = record { begin = begin-ready; written = written-ready; room = room-ready; fill = fill-ready; stepped = stepped-ready }
 
 pub room-is-made : RoomIsMade
 room-is-made s r need out fits = go (hasRoom need out (s .used)) refl

@@ -9,13 +9,12 @@ use Rattle.text.specs.Put.{hasRoom}
 use Rattle.stream.specs.declared.Input.{Input}
 use Rattle.stream.specs.declared.Stream.{Stream}
 use Rattle.stream.specs.Ready.{bufferRoom, octetWaits, InBuffer, Ready}
-use Rattle.stream.specs.Promises.{BeginsFresh, ReadsMore, WritesOut, MakesRoom, Fills, StepsTo}
+use Rattle.stream.specs.Promises.{BeginsFresh, WritesOut, MakesRoom, Fills, StepsTo}
 
 -- ---- 1. What each function leaves lies in the buffers, if what it is given does
 
 pub record StaysReady : Type 0 where
   pub begin : (r : Stream) → BeginsFresh r → Ready r
-  pub more : (i r : Input) (before after : List ℕ) → InBuffer i → ReadsMore (octetWaits i) i before r after → InBuffer r
   pub written : (s r : Stream) → Ready s → WritesOut s r → Ready r
   pub room : (s r : Stream) (need : ℕ) (out : List ℕ) → Ready s → MakesRoom (hasRoom need out (s .used)) s r → Ready r
   pub fill : (s r : Stream) (before after : List ℕ) → Ready s → Fills (octetWaits (s .input)) s before r after → Ready r
@@ -34,12 +33,6 @@ RoomIsMade =
 abbrev pub OneBeginning : Type 0
 OneBeginning = (r s : Stream) → BeginsFresh r → BeginsFresh s → r ≡ s
 
--- where nothing is read
-abbrev pub OneMore : Type 0
-OneMore =
-    (i r q : Input) (before a b : List ℕ) → octetWaits i ≡ true → ReadsMore (octetWaits i) i before r a → ReadsMore (octetWaits i) i before q b
-    → (r ≡ q) × (a ≡ b)
-
 abbrev pub OneWritten : Type 0
 OneWritten = (s r q : Stream) → WritesOut s r → WritesOut s q → r .on ≡ q .on → r ≡ q
 
@@ -51,6 +44,12 @@ abbrev pub OneFilling : Type 0
 OneFilling =
     (b : Bool) (s r q : Stream) (before a c : List ℕ) → Fills b s before r a → Fills b s before q c → r .on ≡ q .on
     → (b ≡ false → r .on ≡ false) → (r ≡ q) × (a ≡ c)
+
+-- one that reads leaves open how many octets came, and the buffer that they came into
+abbrev pub OneFillingRead : Type 0
+OneFillingRead =
+    (s r q : Stream) (before a c : List ℕ) → Fills false s before r a → Fills false s before q c → r .on ≡ true → q .on ≡ true
+    → (r .used ≡ q .used) × (r .input .at ≡ q .input .at)
 
 abbrev pub OneStepping : Type 0
 OneStepping =

@@ -32,7 +32,7 @@ pub fn begin() -> Stream
 }
 
 // The input as it stands if an octet is there to take; else what one read gives, which is none at its end or where reading fails.
-pub fn more(input: Input, buf: &mut [u8; 65536]) -> Input
+fn more(input: Input, buf: &mut [u8; 65536]) -> Input
     ensures { λ r. ⌜ ReadsMore (octetWaits input) input (now (buf .entry)) r (now (buf .exit)) ⌝ }
 {
     if input.at < input.end {

@@ -19,34 +19,34 @@ slice-aggregate-crc c = sym (length-take-le _ (c .before .before .before .args .
 crc-requires : tie.Need-crc-requires
 crc-requires c κs = search needs
 
-shared-slice-read-joined : tie.Need-shared-slice-read-joined
-shared-slice-read-joined c = search needs
+shared-slice-read-number-of : tie.Need-shared-slice-read-number-of
+shared-slice-read-number-of c = search needs
 
-add-joined : tie.Need-add-joined
-add-joined c = search needs
+add-number-of : tie.Need-add-number-of
+add-number-of c = search needs
 
-shared-slice-read-joined-2 : tie.Need-shared-slice-read-joined-2
-shared-slice-read-joined-2 c = search needs
+shared-slice-read-number-of-2 : tie.Need-shared-slice-read-number-of-2
+shared-slice-read-number-of-2 c = search needs
 
-add-joined-2 : tie.Need-add-joined-2
-add-joined-2 c = search needs
+add-number-of-2 : tie.Need-add-number-of-2
+add-number-of-2 c = search needs
 
-shared-slice-read-joined-3 : tie.Need-shared-slice-read-joined-3
-shared-slice-read-joined-3 c = search needs
+shared-slice-read-number-of-3 : tie.Need-shared-slice-read-number-of-3
+shared-slice-read-number-of-3 c = search needs
 
-add-joined-3 : tie.Need-add-joined-3
-add-joined-3 c = search needs
+add-number-of-3 : tie.Need-add-number-of-3
+add-number-of-3 c = search needs
 
-shared-slice-read-joined-4 : tie.Need-shared-slice-read-joined-4
-shared-slice-read-joined-4 c = search needs
+shared-slice-read-number-of-4 : tie.Need-shared-slice-read-number-of-4
+shared-slice-read-number-of-4 c = search needs
 
-joined-requires : tie.Need-joined-requires
-joined-requires c κs = search needs
+number-of-requires : tie.Need-number-of-requires
+number-of-requires c κs = search needs
 
 returns-2 : tie.Need-returns-2
 returns-2 c =
     let called = c .before .before .before .before in
-    crc-is _ _ _ (called .before .before .before .if1 .left) (called .before .crc .ensures) (c .joined .ensures)
+    crc-is _ _ _ (called .before .before .before .if1 .left) (called .before .crc .ensures) (c .number-of .ensures)
 
 pub right-spec : {M : Type 1} → statement M
 right-spec =
@@ -56,12 +56,12 @@ right-spec =
     sub-n
     slice-aggregate-crc
     crc-requires
-    shared-slice-read-joined
-    add-joined
-    shared-slice-read-joined-2
-    add-joined-2
-    shared-slice-read-joined-3
-    add-joined-3
-    shared-slice-read-joined-4
-    joined-requires
+    shared-slice-read-number-of
+    add-number-of
+    shared-slice-read-number-of-2
+    add-number-of-2
+    shared-slice-read-number-of-3
+    add-number-of-3
+    shared-slice-read-number-of-4
+    number-of-requires
     returns-2)
