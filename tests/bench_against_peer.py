@@ -281,7 +281,7 @@ def conversation(bench, seed):
     due = answers([bench], input=joined(setup, events)).splitlines(keepends=True)
     lines = [b'%d\n%s\n' % (len(setup), setup[0].encode()), *(line.encode() + b'\n' for line in setup[1:])]
     lines += [b'%d\n%s\n' % (len(events), events[0].encode()), *(line.encode() + b'\n' for line in events[1:])]
-    for ahead, size in ((0, 4096), (0, 1), (3, 4096)):
+    for ahead, size in ((0, 4096), (0, 1), (1, 4096)):
         text, ends = b''.join(lines), []
         for line in lines:
             ends.append((ends[-1] if ends else 0) + len(line))

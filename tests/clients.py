@@ -254,9 +254,9 @@ def answering(text):
 MALFORMED = {
     'nonsense': 'hello\\n', 'an empty line': '\\n', 'no level': 'ok\\n', 'no symbols': 'ok 1\\n', 'a level of 2': 'ok 2 -\\n',
     'a CR': 'ok 1 -\\r\\n', 'more behind it': 'ok 1 - 00\\n', 'a space behind it': 'ok 1 - \\n', 'two spaces': 'ok 1  -\\n',
-    'a space before it': ' ok 1 -\\n', 'no0': 'no0 1 -\\n', 'no13': 'no13 1 -\\n', 'no01': 'no01 1 -\\n', 'no': 'no 1 -\\n',
-    'no100': 'no100 1 -\\n', 'half a symbol': 'ok 1 1\\n', 'a small digit': 'ok 1 1a\\n', 'a symbol of 32': 'ok 1 20\\n',
-    'a symbol that is no hex': 'ok 1 0G\\n', '74 symbols': 'ok 1' + ' 18' * 74 + '\\n', 'a NUL': 'ok\\000 1 -\\n',
+    'a space before it': ' ok 1 -\\n', 'no0': 'no0 1 -\\n', 'no12': 'no12 1 -\\n', 'no13': 'no13 1 -\\n', 'no01': 'no01 1 -\\n',
+    'no': 'no 1 -\\n', 'no100': 'no100 1 -\\n', 'half a symbol': 'ok 1 1\\n', 'a small digit': 'ok 1 1a\\n',
+    'a symbol of 32': 'ok 1 20\\n', 'a symbol that is no hex': 'ok 1 0G\\n', '74 symbols': 'ok 1' + ' 18' * 74 + '\\n', 'a NUL': 'ok\\000 1 -\\n',
     'an octet in place of done': '=04 1 -\\n', 'two lines': 'ok 1 -\\nok 1 -\\n', 'a line and a half': 'ok 1 -\\nok',
     'bad line': 'bad line 3\\n', 'too long a line': 'ok 1' + ' 18' * 100 + '\\n', 'a long word': 'o' * 256, 'capitals': 'OK 1 -\\n',
 }
@@ -291,7 +291,7 @@ def standins():
     yield '73 symbols three times', answering('ok 1' + ' 18' * 73 + '\\n'), LONG_MS, ['W 02 00 00 00', 'W 02'], \
         ['error: %s taken 1' % FORM, 'error: %s taken 0' % FORM, 'close: ' + FORM]
     yield 'speaks unasked', TALK + "read -r e; echo 'ok 1 -'; sleep 0.2; echo 'ok 1 -'; read -r e\n", LONG_MS, \
-        ['w 03 21', 's 1500', *two], ['ok 1 -', *failing(FORM)]
+        ['w 03 21', 's 4000', *two], ['ok 1 -', *failing(FORM)]
     yield 'no line end', TALK + "read -r e; printf 'ok 1 -'; exec sleep 60\n", SHORT_MS, two, failing(FORM)
     yield 'no line end, and ends', TALK + "read -r e; printf 'ok 1 -'\n", LONG_MS, two, failing(FORM)
     yield 'one character after the other', TALK + 'read -r e; while :; do printf o; sleep 0.2; done\n', SHORT_MS, two, failing(FORM)
@@ -338,17 +338,20 @@ def running(pid):
     try:
         with open('/proc/%d/stat' % pid) as file:
             return file.read().rpartition(')')[2].split()[0] != 'Z'
-    except FileNotFoundError:
+    except (FileNotFoundError, ProcessLookupError):
         return False
 
 
 def check_grandchild(players):
     """What the program has started ends with it when it is ended by force."""
     for name, command in players.items():
-        told = made('grandchild')
-        path = program('starts another', '#!/bin/sh\nsleep 60 &\necho $! >%s\nwait\n' % told)
-        given, _ = played(command, path, ['t 0', 't 0'], SHORT_MS // 2)
+        told = made('grandchild of ' + name.replace(' ', '_'))
+        path = program('starts another for ' + name, '#!/bin/sh\nsleep 60 &\necho $! >"%s"\nwait\n' % told)
+        given, _ = played(command, path, ['t 0', 't 0'], SHORT_MS)
         wrong = first_difference(given, failing(SILENT) + [NOTHING_LEFT])
+        if not os.path.exists(told) or not os.path.getsize(told):
+            yield 'starts another: %s: it never did' % name
+            continue
         with open(told) as file:
             pid = int(file.read())
         until = time.monotonic() + 2
@@ -481,18 +484,30 @@ def check_python(bench):
             yield 'Python: a call that raised has asked something of the model'
     model.close()
     yield from raises(NotOpen, model.read, 0x03)
-    model = Fusb302(program('silent', '#!/bin/sh\nexec sleep 60\n'), LONG_MS / 1000)
+    late = program('answers late', TALK + "read -r e; sleep 2; echo '=00 1 -'; read -r e; echo '=01 1 -'\n")
+    model = Fusb302(late, LONG_MS / 1000)
     signal.signal(signal.SIGALRM, signal.default_int_handler)
     signal.setitimer(signal.ITIMER_REAL, 0.5)
     yield from raises(KeyboardInterrupt, model.read, 0x03)
-    yield from raises(Silent, model.read, 0x03)
+    time.sleep(3)
+    try:
+        yield 'Python: a call after one that was broken off gives %r' % (model.read(0x03),)
+    except Silent as error:
+        if 'broken off' not in str(error):
+            yield 'Python: a call after one that was broken off says %s' % error
     model.close()
 
 
 def say_times(players, bench):
     """How long an event takes as a line to the bench and a line back."""
     calls = ['r 41', 't 1', 'w 02 44', 'r 02'] * (TIMED // 4)
-    times = {name: min(played(command, bench, calls)[1] for _ in range(3)) for name, command in players.items()}
+    times, due = {}, None
+    for name, command in players.items():
+        runs = [played(command, bench, calls) for _ in range(3)]
+        times[name] = min(seconds for _, seconds in runs)
+        due = due or runs[0][0]
+        if len(due) < TIMED or any(given != due for given, _ in runs):
+            yield 'timed: %s: answers otherwise, so its time says nothing' % name
     figures = ', '.join('%s %.1f' % (name, seconds / TIMED * 1e6) for name, seconds in times.items())
     print('clients: %d events over a pipe, microseconds an event: %s' % (TIMED, figures))
 
@@ -507,9 +522,8 @@ def main():
     wrongs = check_random(every, bench, seed)
     wrongs += check_events(every, bench)
     for found in (check_grandchild(every), check_opening(every, bench), check_text(every), check_head_examples(bench),
-                  check_firmware(bench), check_threads(bench), check_python(bench)):
+                  check_firmware(bench), check_threads(bench), check_python(bench), say_times(every, bench)):
         wrongs += found
-    say_times(every, bench)
     for wrong in wrongs:
         print('clients: ' + wrong)
     if wrongs:

@@ -25,7 +25,7 @@ enum {
     DECIMAL_MOST = 9999999,  /* the largest decimal of the bench's text, and so the most events */
     FRAME_SYMBOLS = 73,
     SYMBOL_MOST = 0x1F,
-    NUMBER_MOST = 12,
+    NUMBER_MOST = 11, /* the bench always lends enough symbols, and so never says 12 */
     CRC_OCTETS = 4,
     MESSAGE_MOST = 30,
     PACKET_MOST = MESSAGE_MOST + CRC_OCTETS,
@@ -116,7 +116,11 @@ static fusb302_status nothing_unasked(const fusb302 *model)
 {
     struct pollfd end = {.fd = model->output, .events = POLLIN};
     char octet;
-    if (poll(&end, 1, 0) <= 0)
+    int found;
+    do
+        found = poll(&end, 1, 0);
+    while (found < 0 && errno == EINTR);
+    if (found <= 0)
         return FUSB302_OK;
     return read(model->output, &octet, 1) > 0 ? FUSB302_OUT_OF_FORM : FUSB302_ENDED;
 }
@@ -177,7 +181,7 @@ static bool take_octet(const char **at, uint8_t *octet)
     return true;
 }
 
-/* A number of no: 1 to 12, in as many digits as it needs. */
+/* A number of no: 1 to 11, in as many digits as it needs. */
 static bool take_number(const char **at, uint8_t *number)
 {
     unsigned found = 0;
@@ -261,7 +265,7 @@ static fusb302_status converse(const call *now, const line *asked, bool is_read)
     const fusb302 *model = now->model;
     char answer[LINE];
     size_t length = 0;
-    fusb302_status status = nothing_unasked(model);
+    fusb302_status status = now_ms() > now->until ? FUSB302_SILENT : nothing_unasked(model);
     if (status == FUSB302_OK)
         status = send_text(model, asked->text, asked->length, now->until);
     if (status == FUSB302_OK)
@@ -616,7 +620,9 @@ fusb302_status fusb302_close(fusb302 *model)
     shut(&model->input);
     shut(&model->input_kept);
     shut(&model->output);
-    /* The end of its input ends the bench; what is out of step need not be waited for. */
+    /* The end of its input ends the bench; what is out of step is not waited for, and neither is what it started. */
+    if (!in_step)
+        kill(-model->bench, SIGKILL);
     if (!ended(model->bench, in_step ? now_ms() + model->limit_ms : 0)) {
         kill(-model->bench, SIGKILL);
         kill(model->bench, SIGKILL);

@@ -55,7 +55,7 @@ enum {
 typedef enum {
     FUSB302_DONE,
     FUSB302_VALUE,  /* an octet was read */
-    FUSB302_REFUSED /* and nothing has changed */
+    FUSB302_REFUSED /* and what was refused has changed nothing */
 } fusb302_reply;
 
 /* One event sends a frame of at most 73 symbols; an I2C write over 06 and 09 can send a message and a Hard Reset, 73 + 4. */
@@ -78,7 +78,10 @@ typedef struct {
  */
 fusb302_status fusb302_open(fusb302 **model, const char *bench, uint32_t limit_ms);
 
-/* Ends the model, and gives the error that it was in. A model that does not end within the time limit is ended by force. */
+/*
+ * Ends the model, and gives the error that it was in. A model that does not end within the time limit is ended by force, and
+ * FUSB302_SILENT is given.
+ */
 fusb302_status fusb302_close(fusb302 *model);
 
 /* The events, one each. `outcome` may be NULL. */

@@ -14,10 +14,11 @@ From the project's folder: PYTHONPATH=clients/python python3 reset.py
         print(error)
 
 What the model answers is an Outcome, a refusal too. That it does not answer is an Error: NotStarted, Ended, OutOfForm, Silent,
-TooManyEvents or NotOpen. After an error the model stays in it: every later call raises it again at once.
+TooManyEvents or NotOpen. After an error the model stays in it: every later event raises it again at once, and closing is quiet.
 A number that is no octet, or below 0, is a ValueError, and nothing is asked of the model.
 Models are independent of each other. One model is for one thread at a time.
 """
+import operator
 import os
 import re
 import select
@@ -33,8 +34,11 @@ _PORT = 0x43
 _LINE = 256  # the longest line of the bench, its LF among it
 _DECIMAL_MOST = 9_999_999  # the largest decimal of the bench's text, and so the most events
 _PACKET_MOST = 34
+_LONGEST = 1_000_000  # seconds that one wait can last
 _FRAME_SYMBOLS, _CALL_SYMBOLS = 73, 77  # a call over 06 and 09 can send a message and a Hard Reset
-_ANSWER = re.compile(rb'(ok|=([0-9A-F]{2})|no([1-9]|1[0-2])) ([01]) (-|[01][0-9A-F](?: [01][0-9A-F]){0,%d})\n' % (_FRAME_SYMBOLS - 1))
+# The bench always lends enough symbols, and so never says no12.
+_REPLY, _SYMBOL = rb'ok|=([0-9A-F]{2})|no([1-9]|1[01])', rb'[01][0-9A-F]'
+_ANSWER = re.compile(rb'(%s) ([01]) (-|%s(?: %s){0,%d})\n' % (_REPLY, _SYMBOL, _SYMBOL, _FRAME_SYMBOLS - 1))
 
 
 class Error(Exception):
@@ -70,7 +74,8 @@ class NotOpen(Error):
 
 
 class Outcome(NamedTuple):
-    """What came of a call; `refused` is true exactly when `number` is not 0, and then nothing has changed."""
+    """What came of a call; `refused` is true exactly when `number` is not 0, and then what
+    was refused has changed nothing."""
     value: Optional[int] = None  # the octet that was read last, if one was
     number: int = 0              # why it was refused, 1 to 11, else 0
     int_n: int = 1               # the level of INT_N: 0 is low, an interrupt waits
@@ -89,13 +94,13 @@ def _hex(octets: Iterable[int]) -> str:
 
 def _decimal(number: int) -> str:
     """A decimal. One that is too large for the bench's text is refused like the largest that is not."""
-    if number < 0:
+    if operator.index(number) < 0:
         raise ValueError('%d is below 0' % number)
     return ' %d' % min(number, _DECIMAL_MOST)
 
 
 def _milliseconds(until: float) -> float:
-    return max(0, until - time.monotonic()) * 1000
+    return min(max(0, until - time.monotonic()), _LONGEST) * 1000
 
 
 class Fusb302:
@@ -103,14 +108,14 @@ class Fusb302:
     longer than `limit` seconds."""
 
     def __init__(self, bench: Optional[str] = None, limit: float = 5.0):
-        self._limit = limit
+        self._limit = min(limit, _LONGEST)
         self._events = 0
         self._int_n = 1
         self._error: Optional[Error] = NotOpen()
         self._start(bench)
         self._error = None
         # No setup writes, and as many events as the text can promise.
-        self._send(b'0\n%d\n' % _DECIMAL_MOST, time.monotonic() + limit)
+        self._send(b'0\n%d\n' % _DECIMAL_MOST, self._until())
 
     def __enter__(self) -> 'Fusb302':
         return self
@@ -136,7 +141,8 @@ class Fusb302:
         return self.hear_packet_with_crc(kind, octets + zlib.crc32(octets).to_bytes(4, 'little'))
 
     def hear_packet_with_crc(self, kind: int, octets: Iterable[int]) -> Outcome:
-        """A packet is heard whose last four octets are its CRC, right or wrong: 6 to 34 octets. Other lengths are refused with 9."""
+        """A packet is heard whose last four octets are its CRC, right or wrong: 6 to 34 octets. Other lengths are refused
+        with 9."""
         # One octet too many is refused like any more, and the line stays short.
         return self._event('p' + _decimal(kind) + _hex(bytes(iter(octets))[:_PACKET_MOST + 1]), self._until())
 
@@ -159,20 +165,23 @@ class Fusb302:
         return self._int_n
 
     def close(self) -> None:
-        """Ends the model, by force if it does not end within the time limit. A second call does nothing."""
+        """Ends the model. One that does not end within the time limit is ended by force, and Silent is raised; one in error is
+        ended at once, and nothing is. A second call does nothing."""
         if isinstance(self._error, NotOpen):
             return
         in_step = self._error is None or isinstance(self._error, TooManyEvents)
         self._error = NotOpen()
         for end in (self._input, self._input_kept, self._output):
             end.close()
-        # The end of its input ends the bench; what is out of step need not be waited for.
+        # The end of its input ends the bench; what is out of step is not waited for, and neither is what it started.
+        if not in_step:
+            self._kill()
+            return
         try:
-            self._bench.wait(self._limit if in_step else 0)
+            self._bench.wait(self._limit)
         except subprocess.TimeoutExpired:
             self._kill()
-            if in_step:
-                raise Silent() from None
+            raise Silent() from None
 
     def _kill(self) -> None:
         try:
@@ -224,7 +233,7 @@ class Fusb302:
             if one.refused:
                 break
             # The FIFO port stays (004, note 10).
-            address += address != _PORT
+            address = address + (address != _PORT) & 0xFF
         return whole
 
     def _event(self, line: str, until: float) -> Outcome:

@@ -6,7 +6,8 @@
 #include <stddef.h>
 #include <stdint.h>
 
-/* Octets to the chip, from a register on. Gives back how many went out: no more than the layer holds, 0 if the chip refused. */
+/* Octets to the chip, from a register on. Gives back how many went out: no more than the layer holds, fewer
+ * if the chip refused one. */
 size_t i2c_write(uint8_t address, const uint8_t *octets, size_t n);
 
 /* Octets from the chip, from a register on. Gives back how many came. */

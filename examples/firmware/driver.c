@@ -34,7 +34,7 @@ static bool write_register(uint8_t address, uint8_t value)
 bool driver_init(void)
 {
     message_id = 0;
-    return write_register(RESET, SW_RES) && write_register(SWITCHES1, SPEC_REV_2_0 | TXCC1) &&
+    return write_register(RESET, SW_RES) && write_register(POWER, PWR_ALL) && write_register(SWITCHES1, SPEC_REV_2_0 | TXCC1) &&
            write_register(CONTROL3, N_RETRIES_3 | AUTO_RETRY) && write_register(CONTROL0, HOST_CUR_DEFAULT);
 }
 
@@ -98,7 +98,7 @@ static driver_result wait_for_result(void)
 driver_result driver_send_name(const char *name)
 {
     uint8_t queue[QUEUE_MOST];
-    if (strlen(name) > NAME_MOST)
+    if (*name == '\0' || strlen(name) > NAME_MOST)
         return DRIVER_NOT_TAKEN;
     size_t n = put_queue(queue, name);
     if (!port_write(queue, n) || !write_register(CONTROL0, HOST_CUR_DEFAULT | TX_START)) {

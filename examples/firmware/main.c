@@ -16,7 +16,7 @@ enum { I2C_BUFFER = 32 };
 enum { EVENT_US_MOST = 1000, ANSWERS_AFTER_US = 200, NEVER = INT32_MAX, ALL = INT32_MAX };
 
 /* A frame: an ordered set, a symbol for each nibble, the CRC's among them, and EOP. */
-enum { SET_SYMBOLS = 4, CRC_OCTETS = 4, EOP_SYMBOLS = 1, MESSAGE_MOST = 34, HEADER_OCTETS = 2 };
+enum { FRAME_LEAST = 17, SET_SYMBOLS = 4, CRC_OCTETS = 4, EOP_SYMBOLS = 1, MESSAGE_MOST = 34, HEADER_OCTETS = 2 };
 
 enum { GOODCRC = 0x1, SPECIFICATION_2_0 = 1 << 6, MESSAGE_ID_BITS = 7 << 1 };
 
@@ -61,8 +61,11 @@ static size_t message_of(const fusb302_outcome *outcome, uint8_t message[MESSAGE
 static void charger_hears(const fusb302_outcome *outcome)
 {
     uint8_t message[MESSAGE_MOST];
-    if (outcome->count == 0)
+    if (outcome->count < FRAME_LEAST) {
+        if (outcome->count > 0)
+            printf("%5u us: a Hard Reset leaves\n", (unsigned)now_us);
         return;
+    }
     size_t n = message_of(outcome, message);
     printf("%5u us: %zu symbols leave, \"%.*s\"\n", (unsigned)now_us, outcome->count, (int)(n - HEADER_OCTETS),
            (const char *)message + HEADER_OCTETS);

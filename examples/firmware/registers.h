@@ -6,6 +6,7 @@ enum fusb302_register {
     SWITCHES1 = 0x03,
     CONTROL0 = 0x06,
     CONTROL3 = 0x09,
+    POWER = 0x0B,
     RESET = 0x0C,
     INTERRUPTA = 0x3E,
     INTERRUPTB = 0x3F,
@@ -20,6 +21,8 @@ enum switches1 { SPEC_REV_2_0 = 1 << 5, TXCC1 = 1 << 0 };
 enum control0 { TX_FLUSH = 1 << 6, HOST_CUR_DEFAULT = 1 << 2, TX_START = 1 << 0 };
 
 enum control3 { N_RETRIES_3 = 3 << 1, AUTO_RETRY = 1 << 0 };
+
+enum power { PWR_ALL = 0x0F };
 
 enum reset { SW_RES = 1 << 0 };
 

@@ -42,6 +42,7 @@ class Player:
         try:
             if model is None:
                 raise NotOpen
+            # Closing is quiet in Python: the error that the model is in is looked up, so that both clients say the same here.
             if model._error is not None:
                 text = model._error.text
             model.close()

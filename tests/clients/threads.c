@@ -56,6 +56,10 @@ int main(int argc, char **argv)
     if (argc != 2)
         return 2;
     alone = open_and_close(argv[1]);
+    if (alone < 3) {
+        printf("%d descriptors in the program of a model\n", alone);
+        return 1;
+    }
     for (int i = 0; i < THREADS; i++)
         if (pthread_create(&threads[i], NULL, many, argv[1]) != 0)
             return 2;
