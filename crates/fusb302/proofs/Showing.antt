@@ -1,17 +1,16 @@
 -- The status registers and INT_N, from the parts of a device.
 -- Assumes nothing.
 use mathlib.Core.Path.{_≡_, refl, sym, ap, ap₂, _∙_}
-use mathlib.Core.Bool.{Bool, true, false, not, cond, _&&_, _||_}
+use mathlib.Core.Bool.{Bool, true, false, cond, _||_}
 use mathlib.Core.Option.{none, some}
 use Prim.Native.Nat.{ℕ, _+_}
 use native.Mathlib.Omega.{arith}
 use borrow.Author.Tests.{ne-eqb}
 use lib.Dec.{ltb, eqb}
-use lib.ListN.{length, getD}
+use lib.ListN.{length}
 use lib.Seq.{length-take-le}
 use Rattle.line.specs.Kind.{sopKinds}
-use Rattle.machine.specs.Registers.{cell, has, INT-MASK}
-use Rattle.machine.specs.Status.{txRoom, rxRoom, flag, isLast, lastIs, status0Of, status1Of, unmasked, intLow}
+use Rattle.machine.specs.Status.{txRoom, rxRoom, flag, isLast, lastIs, status0Of, status1Of}
 use Rattle.fusb302.specs.declared.queue.Queue.{Queue}
 use Rattle.fusb302.specs.declared.fifo.Fifo.{Fifo}
 use Rattle.fusb302.specs.declared.device.Device.{Device}

@@ -9,6 +9,7 @@ pub mod Blocks
 pub mod Messages
 pub mod Keeping
 pub mod Staying
+pub mod Receiving
 pub mod Recording
 pub mod Retrying
 pub mod Models

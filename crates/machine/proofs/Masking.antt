@@ -2,78 +2,22 @@
 -- Assumes nothing.
 use mathlib.Core.Path.{_≡_, refl, sym, ap, _∙_}
 use mathlib.Core.Bool.{Bool, true, false, cond, _||_, true≢false}
-use mathlib.Core.List.{List, [], _∷_, _++_}
+use mathlib.Core.List.{List, [], _∷_}
 use mathlib.Core.Option.{Option, none, some}
 use Prim.Native.Nat.{ℕ, zero, suc, _+_, _-_}
 use native.Mathlib.Omega.{arith}
 use borrow.Author.Tests.{eqb-false}
 use lib.Bits.{bitAnd}
-use lib.Dec.{ltb, eqb}
+use lib.Dec.{eqb}
 use lib.ListN.{getD, set, drop}
 use lib.Seq.{set-set, set-comm, getD-set-other}
 use Rattle.line.specs.Frame.{Frame}
-use Rattle.line.specs.Crc.{crcRight}
-use Rattle.machine.specs.Registers.{
-  storedBits,
-  stored,
-  cell,
-  switches1,
-  control0,
-  control1,
-  control3,
-  mask,
-  reset,
-  maska,
-  maskb,
-  fifos,
-  has,
-  TX-FLUSH,
-  TX-START,
-  RX-FLUSH,
-  SEND-HARD-RESET,
-  PD-RESET,
-  SW-RES,
-}
-use Rattle.machine.specs.State.{
-  Phase,
-  message,
-  softReset,
-  State,
-  Request,
-  reg,
-  powerUp,
-  withCells,
-  withRx,
-  withTx,
-  withKind,
-  withInts,
-  raises,
-  raisesB,
-}
-use Rattle.machine.specs.Status.{txFull, rxFull, status1aOf, status0Of, status1Of, clearedAt, I-ALERT, I-GCRCSENT}
-use Rattle.machine.specs.Headers.{GoodCRC, Soft-Reset, control, messageId, isControl}
-use Rattle.machine.specs.Queue.{spelt}
-use Rattle.machine.specs.Requests.{
-  Effect,
-  silent,
-  sends,
-  sendsIf,
-  wait,
-  latched,
-  start,
-  over,
-  acknowledged,
-  sendHardReset,
-  hardResetHeard,
-  flight,
-  messageFails,
-  softFails,
-  fails,
-  expires,
-  elapses,
-  passes,
-}
-use Rattle.machine.specs.Packets.{kindOn, fitsRx, awaited, awaitedBy, repliesTo, rxToken, onlyIf, checks, softResetHeard, noted, keeps, stores, accepts, hears}
+use Rattle.machine.specs.Registers.{storedBits, stored, cell, switches1, control0, control1, control3, mask, reset, maska, maskb, fifos, has, TX-FLUSH, PD-RESET, SW-RES}
+use Rattle.machine.specs.State.{Phase, message, softReset, State, Request, powerUp, withCells, withRx, withInts}
+use Rattle.machine.specs.Status.{status1aOf, status0Of, status1Of, clearedAt}
+use Rattle.machine.specs.Headers.{Soft-Reset, isControl}
+use Rattle.machine.specs.Requests.{Effect, silent, sendsIf, latched, start, over, acknowledged, sendHardReset, hardResetHeard, messageFails, softFails, fails, expires, elapses, passes}
+use Rattle.machine.specs.Packets.{kindOn, awaited, awaitedBy, repliesTo, onlyIf, checks, softResetHeard, noted, keeps, stores, accepts, hears}
 use Rattle.machine.specs.Events.{Event, write, read, pass, hardReset, packet, value, onRead}
 use Rattle.machine.specs.Refusals.{portStart, starts, toBeStored, queueAt, no12, no1, no2, no6, no3, no5, no4, no7, no8, no11, no9, no10, refusal}
 use Rattle.machine.specs.Step.{restored, pdReset, queues, control0Written, control1Written, control3Written, resetWritten, portWritten, commands, writes, afterRead, readValue, accepted, replyTo, resultOf, step}
@@ -146,30 +90,28 @@ module _ (d : List ℕ) where
   abbrev With : Effect → Effect
   With x = record { state = withCells d (x .state); frames = x .frames }
 
-  by-test : (b : Bool) (x y : Effect) {u v : Effect} → u ≡ With x → v ≡ With y → cond b u v ≡ With (cond b x y)
-  by-test true x y p q = p
-  by-test false x y p q = q
+  cells-if : (b : Bool) (s t : State) → withCells d (cond b s t) ≡ cond b (withCells d s) (withCells d t)
+  cells-if true s t = refl
+  cells-if false s t = refl
 
-  on-test : (b : Bool) (f : State → State) (s : State) → f (withCells d s) ≡ withCells d (f s) → onlyIf b f (withCells d s) ≡ withCells d (onlyIf b f s)
-  on-test true f s e = e
-  on-test false f s e = refl
+  with-if : (b : Bool) (x y : Effect) → With (cond b x y) ≡ cond b (With x) (With y)
+  with-if true x y = refl
+  with-if false x y = refl
 
-  sent-if : (o : Option Frame) (s : State) → sendsIf o (withCells d s) ≡ With (sendsIf o s)
-  sent-if none s = refl
-  sent-if (some f) s = refl
+  with-sends : (o : Option Frame) (s : State) → With (sendsIf o s) ≡ sendsIf o (withCells d s)
+  with-sends none s = refl
+  with-sends (some f) s = refl
 
   -- ---- time
 
   fails-with : (p : Phase) (w : ℕ) (q : Request) (s : State) → fails p w q (withCells d s) ≡ With (fails p w q s)
   unfolding fails messageFails softFails
-  fails-with message w q s = by-test (q .soft) _ _ refl refl
-  fails-with softReset w q s = by-test (q .hard) _ _ refl refl
+  fails-with message w q s = simp with-if
+  fails-with softReset w q s = simp with-if
 
   elapses-with : (w : ℕ) (q : Request) (s : State) → elapses w q (withCells d s) ≡ With (elapses w q s)
   unfolding elapses expires
-  elapses-with w q s =
-      by-test (ltb w wait) _ _ refl
-      (by-test (ltb (q .sent) (q .retries)) _ _ (sent-if (flight s q) _) (fails-with (q .phase) (w - wait) q s))
+  elapses-with w q s = simp (with-if, with-sends, fails-with)
 
   passes-with : (n : ℕ) (o : Option Request) (s : State) → passes n o (withCells d s) ≡ With (passes n o s)
   unfolding passes
@@ -179,19 +121,17 @@ module _ (d : List ℕ) where
   module _ (s : State) (same : Agree (s .cells) d) where
     start-with : start (withCells d s) ≡ With (start s)
     unfolding start latched
-    start-with = rw (same .sw, same .c3) (sent-if (spelt (s .tx)) _)
+    start-with = simp (same .sw, same .c3, with-sends)
 
     -- ---- packets
 
     keeps-with : (k : ℕ) (m : List ℕ) → keeps k m (withCells d s) ≡ withCells d (keeps k m s)
     unfolding keeps
-    keeps-with k m = on-test (rxFull (withRx (s .rx ++ (rxToken k ∷ m)) s)) (raises I-ALERT) (withKind k (withRx (s .rx ++ (rxToken k ∷ m)) s)) refl
+    keeps-with k m = simp cells-if
 
     stores-with : (k : ℕ) (m : List ℕ) → stores k m (withCells d s) ≡ With (stores k m s)
     unfolding stores repliesTo
-    stores-with k m =
-        rw (same .sw, same .c0, keeps-with k m)
-        (by-test (repliesTo m s) (sends (control GoodCRC k (reg switches1 s) (messageId m)) (raisesB I-GCRCSENT (keeps k m s))) (silent (keeps k m s)) refl refl)
+    stores-with k m = simp (same .sw, same .c0, keeps-with, with-if)
 
   awaited-with : (k : ℕ) (m : List ℕ) (s : State) (o : Option Request) → awaitedBy k m (withCells d s) o ≡ awaitedBy k m s o
   unfolding awaitedBy
@@ -200,9 +140,11 @@ module _ (d : List ℕ) where
 
   noted-with : (k : ℕ) (m : List ℕ) (s : State) → noted k m (withCells d s) ≡ withCells d (noted k m s)
   noted-with k m s =
+      let heard = isControl Soft-Reset m in
+      let t = onlyIf (awaited k m s) acknowledged (checks s) in
       rw (awaited-with k m s (s .request))
-      (ap (onlyIf (isControl Soft-Reset m) softResetHeard) (on-test (awaited k m s) acknowledged (checks s) refl)
-      ∙ on-test (isControl Soft-Reset m) softResetHeard (onlyIf (awaited k m s) acknowledged (checks s)) refl)
+      (ap (onlyIf heard softResetHeard) (sym (cells-if (awaited k m s) (acknowledged (checks s)) (checks s)))
+      ∙ sym (cells-if heard (softResetHeard t) t))
 
   noted-cells : (k : ℕ) (m : List ℕ) (s : State) → noted k m s .cells ≡ s .cells
   noted-cells k m s = go (isControl Soft-Reset m) (awaited k m s)
@@ -216,28 +158,22 @@ module _ (d : List ℕ) where
   module _ (s : State) (same : Agree (s .cells) d) (k : ℕ) (m : List ℕ) where
     accepts-with : accepts k m (withCells d s) ≡ With (accepts k m s)
     unfolding accepts
-    accepts-with =
-        rw (noted-with k m s)
-        (by-test (fitsRx m (noted k m s)) _ _
-        (stores-with (noted k m s) (rw (noted-cells k m s) same) k m)
-        refl)
+    accepts-with = simp (noted-with, with-if, stores-with (noted k m s) (rw (noted-cells k m s) same) k m)
 
     hears-with : hears k m (withCells d s) ≡ With (hears k m s)
     unfolding hears kindOn
-    hears-with = rw (same .c1) (by-test (kindOn k s) _ _ (by-test (crcRight m) _ _ accepts-with refl) refl)
+    hears-with = simp (same .c1, with-if, accepts-with)
 
   -- ---- writes
 
   module _ (s : State) (same : Agree (s .cells) d) (v : ℕ) where
     port-with : portWritten v (withCells d s) ≡ With (portWritten v s)
     unfolding portWritten portStart queues
-    port-with =
-        by-test (portStart s fifos v) _ _ (start-with s same)
-        (ap silent (on-test (txFull (withTx (s .tx ++ (v ∷ [])) s)) (raises I-ALERT) (withTx (s .tx ++ (v ∷ [])) s) refl))
+    port-with = simp (with-if, cells-if, start-with s same)
 
     control0-with : control0Written v (withCells d s) ≡ With (control0Written v s)
     unfolding control0Written
-    control0-with = rw (on-test (has TX-FLUSH v) over s refl) (by-test (has TX-START v) _ _ (flushed (has TX-FLUSH v)) refl)
+    control0-with = rw (← cells-if (has TX-FLUSH v) (over s) s) (simp (with-if, flushed (has TX-FLUSH v)))
       where
         flushed : (b : Bool) → start (withCells d (onlyIf b over s)) ≡ With (start (onlyIf b over s))
         flushed true = start-with (over s) same
@@ -245,11 +181,11 @@ module _ (d : List ℕ) where
 
     control1-with : control1Written v (withCells d s) ≡ With (control1Written v s)
     unfolding control1Written
-    control1-with = ap silent (on-test (has RX-FLUSH v) (withRx []) s refl)
+    control1-with = simp cells-if
 
     control3-with : control3Written v (withCells d s) ≡ With (control3Written v s)
     unfolding control3Written sendHardReset
-    control3-with = by-test (has SEND-HARD-RESET v) _ _ refl refl
+    control3-with = simp with-if
 
 -- ---- steps
 
@@ -280,7 +216,7 @@ module _ (s : State) (d : List ℕ) (h : cleared (s .cells) ≡ cleared d) where
       go : (b : Bool)
           → Same (silent (cond b powerUp (onlyIf (has PD-RESET v) pdReset s))) (silent (cond b powerUp (onlyIf (has PD-RESET v) pdReset (withCells d s))))
       go true = record { state = record { same = refl }; frames = refl }
-      go false = same-with (λ (u : State). silent (onlyIf (has PD-RESET v) pdReset u)) (λ c a. ap silent (on-test c (has PD-RESET v) pdReset s refl))
+      go false = same-with (λ (u : State). silent (onlyIf (has PD-RESET v) pdReset u)) (λ c a. ap silent (sym (cells-if c (has PD-RESET v) (pdReset s) s)))
 
   commands-same : (a v : ℕ) → Same (commands a v s) (commands a v (withCells d s))
   unfolding commands

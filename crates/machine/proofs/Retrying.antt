@@ -16,12 +16,13 @@ use Rattle.line.specs.Refusal.{firstNo}
 use Rattle.line.specs.Write.{frameRoom}
 use Rattle.line.specs.Kind.{common, kindFrom}
 use Rattle.machine.specs.Registers.{control0, cell, stored, has, fifos, TX-FLUSH, TX-START}
-use Rattle.machine.specs.State.{message, softReset, Request, State, withCells, withRequest, hides, shows, raisesA}
+use Rattle.machine.specs.State.{Phase, message, softReset, Request, State, withCells, withRequest, hides, shows, raisesA}
 use Rattle.machine.specs.Status.{RETRYFAIL, SOFTFAIL, I-RETRYFAIL, I-SOFTFAIL, I-HARDSENT}
 use Rattle.machine.specs.Queue.{START, inside, isSome, spelt, speltBy}
 use Rattle.machine.specs.Requests.{
   Effect,
   silent,
+  sends,
   sendsIf,
   wait,
   hardReset,
@@ -105,51 +106,109 @@ module _ (q : Request) (f : Frame) (base : State) where
   unsent : {n : ℕ} {t : State} {fs : List Frame} → Stage q f base n t fs → Goes n fs (silent t)
   unsent {fs = fs} st = sent-as st (sym (append-nil fs))
 
-  goes-cond : (n : ℕ) (fs : List Frame) (b : Bool) (x y : Effect) → (b ≡ true → Goes n fs x) → (b ≡ false → Goes n fs y) → Goes n fs (cond b x y)
-  goes-cond n fs true x y p q = p refl
-  goes-cond n fs false x y p q = q refl
+  goes-by : (n : ℕ) (fs : List Frame) {x y : Effect} → x ≡ y → Goes n fs y → Goes n fs x
+  goes-by n fs e st = subst (Goes n fs) (sym e) st
+
+  -- the request in this phase, with k retries sent and w microseconds of its wait passed
+  abbrev waiting : Phase → ℕ → ℕ → State → State
+  waiting p k w s = withRequest (some (goesOn p k w q)) s
+
+  -- what comes of it, t microseconds after its wait began
+  abbrev Comes : Phase → ℕ → ℕ → ℕ → State → Effect → Type 0
+  Comes p k w t s x = elapses t (goesOn p k w q) (waiting p k w s) ≡ x
+
+  waits-on : (p : Phase) (k w t : ℕ) (s : State) → t < wait → Comes p k w t s (silent (waiting p k t s))
+  unfolding elapses
+  waits-on p k w t s h = simp (lt-ltb t wait h)
+
+  module _ (k w t : ℕ) (long : wait ≤ t) where
+    sends-again : k < q .retries → spelt (base .tx) ≡ some f → Comes message k w t base (sends f (waiting message (suc k) (t - wait) base))
+    unfolding elapses expires flightIn
+    sends-again more spells = simp (le-ltb t wait long, lt-ltb k (q .retries) more, spells)
+
+    resets-again : (s : State) → k < q .retries → Comes softReset k w t s (sends (softResetOf q) (waiting softReset (suc k) (t - wait) s))
+    unfolding elapses expires flightIn
+    resets-again s more = simp (le-ltb t wait long, lt-ltb k (q .retries) more)
+
+    module _ (s : State) (last : q .retries ≤ k) where
+      message-resets : q .soft ≡ true → Comes message k w t s (sends (softResetOf q) (waiting softReset 0 (t - wait) (failed s)))
+      unfolding elapses expires fails messageFails
+      message-resets soft = rw (le-ltb t wait long, le-ltb k (q .retries) last, soft) refl
+
+      message-ends : q .soft ≡ false → Comes message k w t s (silent (failed s))
+      unfolding elapses expires fails messageFails
+      message-ends soft = rw (le-ltb t wait long, le-ltb k (q .retries) last, soft) refl
+
+      reset-hard : q .hard ≡ true → Comes softReset k w t s (sends hardReset (raisesA I-HARDSENT (softFailed s)))
+      unfolding elapses expires fails softFails
+      reset-hard hard = rw (le-ltb t wait long, le-ltb k (q .retries) last, hard) refl
+
+      reset-ends : q .hard ≡ false → Comes softReset k w t s (silent (softFailed s))
+      unfolding elapses expires fails softFails
+      reset-ends hard = rw (le-ltb t wait long, le-ltb k (q .retries) last, hard) refl
 
   module _ (k w n m : ℕ) (few : k ≤ q .retries) (short : w < wait) (part : m ≤ wait) where
+    abbrev t : ℕ
+    t = w + m
+
     message-goes : spelt (base .tx) ≡ some f → n ≡ k * wait + w
-        → Goes (n + m) (replicate (suc k) f) (elapses (w + m) (goesOn message k w q) (withRequest (some (goesOn message k w q)) base))
-    unfolding elapses expires fails messageFails flightIn
-    message-goes spells is =
-        goes-cond (n + m) (replicate (suc k) f) (ltb (w + m) wait) _ _
-        (λ e. let z = ltb-true (w + m) wait e in unsent (sending k (w + m) few z (omega arith)))
-        (λ e.
-        let z = ltb-false (w + m) wait e in
-        goes-cond (n + m) (replicate (suc k) f) (ltb k (q .retries)) _ _
-        (λ g.
-        let y = ltb-true k (q .retries) g in
-        rw spells (sent-as (sending (suc k) (w + m - wait) y (omega arith) (omega arith)) (sym (one-more (suc k) f))))
-        (λ g.
-        let y = ltb-false k (q .retries) g in
-        let last : q .retries ≡ k = omega arith in
-        goes-cond (n + m) (replicate (suc k) f) (q .soft) _ _
-        (λ h. sent-as (resetting 0 (w + m - wait) h (omega arith) (omega arith) (omega arith)) (rw last refl))
-        (λ h. sent-as (message-over h (omega arith)) (rw last (sym (append-nil (replicate (suc k) f)))))))
+        → Goes (n + m) (replicate (suc k) f) (elapses t (goesOn message k w q) (waiting message k w base))
+    message-goes spells is = go (ltb t wait) refl (ltb k (q .retries)) refl (q .soft) refl
+      where
+        fs : List Frame
+        fs = replicate (suc k) f
+
+        go : (b : Bool) → ltb t wait ≡ b → (c : Bool) → ltb k (q .retries) ≡ c → (d : Bool) → q .soft ≡ d
+            → Goes (n + m) fs (elapses t (goesOn message k w q) (waiting message k w base))
+        go true e c g d h =
+            let z = ltb-true t wait e in
+            goes-by (n + m) fs (waits-on message k w t base z) (unsent (sending k t few z (omega arith)))
+        go false e true g d h =
+            let z = ltb-false t wait e in
+            let y = ltb-true k (q .retries) g in
+            goes-by (n + m) fs (sends-again k w t z y spells)
+            (sent-as (sending (suc k) (t - wait) y (omega arith) (omega arith)) (sym (one-more (suc k) f)))
+        go false e false g true h =
+            let z = ltb-false t wait e in
+            let y = ltb-false k (q .retries) g in
+            let last : q .retries ≡ k = omega arith in
+            goes-by (n + m) fs (message-resets k w t z base y h)
+            (sent-as (resetting 0 (t - wait) h (omega arith) (omega arith) (omega arith)) (rw last refl))
+        go false e false g false h =
+            let z = ltb-false t wait e in
+            let y = ltb-false k (q .retries) g in
+            let last : q .retries ≡ k = omega arith in
+            goes-by (n + m) fs (message-ends k w t z base y h) (sent-as (message-over h (omega arith)) (rw last (sym (append-nil fs))))
 
     reset-goes : q .soft ≡ true → n ≡ endOf q + (k * wait + w)
         → Goes (n + m) (replicate (suc (q .retries)) f ++ replicate (suc k) (softResetOf q))
-        (elapses (w + m) (goesOn softReset k w q) (withRequest (some (goesOn softReset k w q)) (failed base)))
-    unfolding elapses expires fails softFails flightIn
-    reset-goes soft is =
-        let sent = replicate (suc (q .retries)) f ++ replicate (suc k) (softResetOf q) in
-        goes-cond (n + m) sent (ltb (w + m) wait) _ _
-        (λ e. let z = ltb-true (w + m) wait e in unsent (resetting k (w + m) soft few z (omega arith)))
-        (λ e.
-        let z = ltb-false (w + m) wait e in
-        goes-cond (n + m) sent (ltb k (q .retries)) _ _
-        (λ g.
-        let y = ltb-true k (q .retries) g in
-        sent-as (resetting (suc k) (w + m - wait) soft y (omega arith) (omega arith))
-        (ap (λ (l : List Frame). replicate (suc (q .retries)) f ++ l) (sym (one-more (suc k) (softResetOf q))) ∙ sym (append-assoc (replicate (suc (q .retries)) f) _ _)))
-        (λ g.
-        let y = ltb-false k (q .retries) g in
-        let last : q .retries ≡ k = omega arith in
-        goes-cond (n + m) sent (q .hard) _ _
-        (λ h. sent-as (hard-reset soft h (omega arith)) (rw last refl))
-        (λ h. sent-as (reset-over soft h (omega arith)) (rw last (sym (append-nil _))))))
+        (elapses t (goesOn softReset k w q) (waiting softReset k w (failed base)))
+    reset-goes soft is = go (ltb t wait) refl (ltb k (q .retries)) refl (q .hard) refl
+      where
+        fs : List Frame
+        fs = replicate (suc (q .retries)) f ++ replicate (suc k) (softResetOf q)
+
+        go : (b : Bool) → ltb t wait ≡ b → (c : Bool) → ltb k (q .retries) ≡ c → (d : Bool) → q .hard ≡ d
+            → Goes (n + m) fs (elapses t (goesOn softReset k w q) (waiting softReset k w (failed base)))
+        go true e c g d h =
+            let z = ltb-true t wait e in
+            goes-by (n + m) fs (waits-on softReset k w t (failed base) z) (unsent (resetting k t soft few z (omega arith)))
+        go false e true g d h =
+            let z = ltb-false t wait e in
+            let y = ltb-true k (q .retries) g in
+            goes-by (n + m) fs (resets-again k w t z (failed base) y)
+            (sent-as (resetting (suc k) (t - wait) soft y (omega arith) (omega arith))
+            (ap (λ (l : List Frame). replicate (suc (q .retries)) f ++ l) (sym (one-more (suc k) (softResetOf q))) ∙ sym (append-assoc (replicate (suc (q .retries)) f) _ _)))
+        go false e false g true h =
+            let z = ltb-false t wait e in
+            let y = ltb-false k (q .retries) g in
+            let last : q .retries ≡ k = omega arith in
+            goes-by (n + m) fs (reset-hard k w t z (failed base) y h) (sent-as (hard-reset soft h (omega arith)) (rw last refl))
+        go false e false g false h =
+            let z = ltb-false t wait e in
+            let y = ltb-false k (q .retries) g in
+            let last : q .retries ≡ k = omega arith in
+            goes-by (n + m) fs (reset-ends k w t z (failed base) y h) (sent-as (reset-over soft h (omega arith)) (rw last (sym (append-nil _))))
 
   -- any stage, and a part of time
   stage-goes : spelt (base .tx) ≡ some f → {n : ℕ} {t : State} {fs : List Frame} → Stage q f base n t fs → (m : ℕ) → m ≤ wait
@@ -462,9 +521,9 @@ fails-exactly s e f room ns enough parts st = stage-shows s f _ (opened s e f st
 -- before its last wait a request has so many waits of the message behind it
 stage-again : (q : Request) (f : Frame) (base : State) → spelt (base .tx) ≡ some f → {n : ℕ} {t : State} {fs : List Frame} → Stage q f base n t fs
     → (k : ℕ) → n ≡ k * wait → k < q .retries → passes wait (t .request) t .frames ≡ f ∷ []
-unfolding passes elapses expires flightIn
+unfolding passes
 stage-again q f base spells (sending j w few short is) k at more =
-    rw (le-ltb (w + wait) wait (omega arith), lt-ltb j (q .retries) (omega arith), spells) refl
+    ap (λ (x : Effect). x .frames) (sends-again q f base j w (w + wait) (omega arith) (omega arith) spells)
 stage-again q f base spells (resetting j w soft few short is) k at more = absurd (omega arith)
 stage-again q f base spells (message-over soft h) k at more = absurd (omega arith)
 stage-again q f base spells (reset-over soft hard h) k at more = absurd (omega arith)

@@ -32,10 +32,6 @@ same-list (x ∷ a) (y ∷ b) e =
 
 -- ---- the count of a block's token
 
-pub announces : (n : ℕ) → 2 ≤ n → n ≤ 30 → announced (0x80 + n) ≡ n
-unfolding announced
-announces n lo hi = rw (le-leb 0x82 (0x80 + n) (omega arith), le-leb (0x80 + n) 0x9E (omega arith)) (omega arith)
-
 announced-by : (x : ℕ) → 2 ≤ announced x → (x ≡ 0x80 + announced x) × (announced x ≤ 30)
 unfolding announced
 announced-by x = go (leb 0x82 x) refl (leb x 0x9E) refl
@@ -45,6 +41,10 @@ announced-by x = go (leb 0x82 x) refl (leb x 0x9E) refl
     go true d true e h = let p = leb-true 0x82 x d in let q = leb-true x 0x9E e in (omega arith, omega arith)
     go true d false e h = absurd (omega arith)
     go false d b e h = absurd (omega arith)
+
+pub announces : (n : ℕ) → 2 ≤ n → n ≤ 30 → announced (0x80 + n) ≡ n
+unfolding announced
+announces n lo hi = rw (le-leb 0x82 (0x80 + n) (omega arith), le-leb (0x80 + n) 0x9E (omega arith)) (omega arith)
 
 -- ---- the kind of a set of four
 
