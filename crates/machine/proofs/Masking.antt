@@ -113,7 +113,7 @@ module _ (d : List ℕ) where
   unfolding elapses expires
   elapses-with w q s = simp (with-if, with-sends, fails-with)
 
-  passes-with : (n : ℕ) (o : Option Request) (s : State) → passes n o (withCells d s) ≡ With (passes n o s)
+  pub passes-with : (n : ℕ) (o : Option Request) (s : State) → passes n o (withCells d s) ≡ With (passes n o s)
   unfolding passes
   passes-with n none s = refl
   passes-with n (some q) s = elapses-with (q .waited + n) q s

@@ -24,6 +24,7 @@ use Rattle.machine.specs.Step.{queues, accepted, resultOf, step, after, 
 use Rattle.machine.specs.Good.{OpenGood}
 use Rattle.machine.specs.Theorems.{DataIsData, LatchedGoverns, TimeAdds, CommandsNotStored}
 use Rattle.machine.proofs.Masks.{outside, cells-at}
+use Rattle.machine.proofs.Masking.{passes-with}
 use Rattle.machine.proofs.Messages.{stored-step}
 use Rattle.machine.proofs.Retrying.{pass-step}
 
@@ -45,36 +46,6 @@ data-is-data s room v enough i free h =
 
 -- ---- time: registers have no part in it
 
-pub record Alike (x y : Effect) : Type 0 where
-  pub frames : x .frames ≡ y .frames
-  pub request : x .state .request ≡ y .state .request
-
-alike-cond : (b : Bool) (x y u v : Effect) → Alike x u → Alike y v → Alike (cond b x y) (cond b u v)
-alike-cond true x y u v p q = p
-alike-cond false x y u v p q = q
-
-alike-sends : (o : Option Frame) (s t : State) → s .request ≡ t .request → Alike (sendsIf o s) (sendsIf o t)
-alike-sends none s t e = record { frames = refl; request = e }
-alike-sends (some f) s t e = record { frames = refl; request = e }
-
-module _ (s : State) (cells : List ℕ) (q : Request) where
-  fails-alike : (p : Phase) (w : ℕ) → Alike (fails p w q (withCells cells s)) (fails p w q s)
-  unfolding fails messageFails softFails
-  fails-alike message w = alike-cond (q .soft) _ _ _ _ (record { frames = refl; request = refl }) (record { frames = refl; request = refl })
-  fails-alike softReset w = alike-cond (q .hard) _ _ _ _ (record { frames = refl; request = refl }) (record { frames = refl; request = refl })
-
-  elapses-alike : (w : ℕ) → Alike (elapses w q (withCells cells s)) (elapses w q s)
-  unfolding elapses expires
-  elapses-alike w =
-      alike-cond (ltb w wait) _ _ _ _ (record { frames = refl; request = refl })
-      (alike-cond (ltb (q .sent) (q .retries)) _ _ _ _ (alike-sends (flight s q) _ _ refl) (fails-alike (q .phase) (w - wait)))
-
-passes-alike : (s : State) (cells : List ℕ) (n : ℕ) (o : Option Request) → s .request ≡ o
-    → Alike (passes n o (withCells cells s)) (passes n o s)
-unfolding passes
-passes-alike s cells n none e = record { frames = refl; request = refl }
-passes-alike s cells n (some q) e = elapses-alike s cells q (q .waited + n)
-
 pub latched-governs : LatchedGoverns
 unfolding step refusal firstNo no12 no1 no2 no6 no3 no5 no4 no7 no8 no11 no9 no10 resultOf accepted
 latched-governs s cells room n = go (refusal s (pass room n))
@@ -83,7 +54,7 @@ latched-governs s cells room n = go (refusal s (pass room n))
         → (resultOf o (withCells cells s) (pass room n) .frames ≡ resultOf o s (pass room n) .frames)
         × (resultOf o (withCells cells s) (pass room n) .state .request ≡ resultOf o s (pass room n) .state .request)
     go (some k) = (refl, refl)
-    go none = let a = passes-alike s cells n (s .request) refl in (a .frames, a .request)
+    go none = let same = passes-with cells n (s .request) s in (ap (λ (x : Effect). x .frames) same, ap (λ (x : Effect). x .state .request) same)
 
 -- ---- time: two parts are one
 
