@@ -68,7 +68,7 @@ pub struct Taken {
 }
 
 // The rest of a line that has `from` octets so far. Before more is read, what is printed is handed over to be written, so that whoever
-// waits for an answer has it.
+// waits for an answer has it (only run: see `fill`).
 fn rest_of_line(
     stream: Stream,
     from: usize,

@@ -1,7 +1,6 @@
 // What is on this line? Standard input, a record, to standard output, a line of text for each frame in it.
 use listing::FRAME_LINE_ROOM;
 use listing::Listing;
-use listing::begin;
 use listing::feed;
 use listing::finish;
 use stream::Input;
@@ -80,7 +79,7 @@ fn all(buf: &mut [u8; 65536], window: &mut [u8; 73], out: &mut [u8]) -> usize
     ensures { λ r. ⌜ r ≤ 65536 ⌝ }
 {
     let stream = stream::begin();
-    let listing = begin();
+    let listing = listing::begin();
     let mut run = Run { stream, listing };
     let mut taken = 0;
     while taken < usize::MAX {

@@ -21,7 +21,7 @@ use Rattle.line.proofs.Writing.{carrying, bare}
 use Rattle.line.proofs.Outcomes.{one-meaning-written}
 use Rattle.machine.specs.Headers.{twoOctets, control}
 use Rattle.machine.specs.Queue.{spelt}
-use Rattle.machine.specs.Requests.{hardReset}
+use Rattle.machine.specs.Requests.{hardResetFrame}
 use Rattle.machine.proofs.Spelling.{set-four, spelt-exactly}
 use Rattle.fusb302.specs.declared.queue.Queue.{Queue}
 use Rattle.fusb302.specs.declared.queue.Message.{Message}
@@ -58,7 +58,7 @@ pub control-whole : (type k sw id : ℕ) → k < sopKinds → Whole (control typ
 unfolding twoOctets
 control-whole type k sw id h = message h (mod-lt _ (lit< tt), (mod-lt _ (lit< tt), tt)) (omega arith) (omega arith)
 
-pub reset-whole : Whole hardReset
+pub reset-whole : Whole hardResetFrame
 reset-whole = alone (omega arith) (omega arith) refl
 
 pub sends-none : (before : List ℕ) → Sends [] before 0 before

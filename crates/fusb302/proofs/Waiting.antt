@@ -16,7 +16,7 @@ use Rattle.machine.specs.Status.{SOFTFAIL, RETRYFAIL, I-SOFTFAIL, I-RETRYFAIL, 
 use Rattle.machine.specs.Requests.{
   silent,
   sends,
-  hardReset,
+  hardResetFrame,
   softResetOf,
   flightIn,
   flight,
@@ -63,9 +63,9 @@ module _ (d t : Device) (before : List ℕ) where
     soft-ends e = rw e (silently _ t failed before)
 
     pub soft-hard : d .request .hard ≡ true → (u : Device) → Becomes (raisesA I-HARDSENT (view t)) u → (n : ℕ) (after : List ℕ)
-        → Sends (hardReset ∷ []) before n after → Does (softFails (asked (d .request)) (view d)) before (done u n) after
+        → Sends (hardResetFrame ∷ []) before n after → Does (softFails (asked (d .request)) (view d)) before (done u n) after
     unfolding softFails
-    soft-hard e u h n after sent = rw e (sending _ u (and-then _ t failed (raisesA I-HARDSENT) u h) before n after hardReset sent)
+    soft-hard e u h n after sent = rw e (sending _ u (and-then _ t failed (raisesA I-HARDSENT) u h) before n after hardResetFrame sent)
 
   module _ (w : ℕ) (failed : Becomes (raisesA I-RETRYFAIL (shows RETRYFAIL (over (view d)))) t) where
     pub message-ends : d .request .soft ≡ false → Does (messageFails w (asked (d .request)) (view d)) before (done t 0) before

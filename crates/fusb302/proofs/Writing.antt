@@ -33,7 +33,7 @@ use Rattle.machine.specs.State as machine
 use Rattle.machine.specs.State.{State, cleared, withTx, withRx, withStatus, withRequest, hides, raisesA, raises}
 use Rattle.machine.specs.Status.{txRoom, I-ALERT, I-HARDSENT}
 use Rattle.machine.specs.Queue.{START, spelt}
-use Rattle.machine.specs.Requests.{Effect, silent, hardReset, retriesOf, latched, failBits, start, over, sendHardReset}
+use Rattle.machine.specs.Requests.{Effect, silent, hardResetFrame, retriesOf, latched, failBits, start, over, sendHardReset}
 use Rattle.machine.specs.Events.{write}
 use Rattle.machine.specs.Step.{
   restored,
@@ -172,12 +172,12 @@ module _ (d : Device) (arranged : Arranged d) (v : ℕ) where
 
 module _ (d : Device) (v : ℕ) (before : List ℕ) where
   pub control3-sends : has SEND-HARD-RESET v ≡ true → (a b c : Device) → Becomes (over (view d)) a → Becomes (hides failBits (view a)) b
-      → Becomes (raisesA I-HARDSENT (view b)) c → (n : ℕ) (after : List ℕ) → Sends (hardReset ∷ []) before n after
+      → Becomes (raisesA I-HARDSENT (view b)) c → (n : ℕ) (after : List ℕ) → Sends (hardResetFrame ∷ []) before n after
       → Does (control3Written v (view d)) before (done c n) after
   unfolding control3Written sendHardReset
   control3-sends h a b c x y z n after sent =
       rw h
-      (sending _ c (and-then _ b (and-then _ a x (hides failBits) b y) (raisesA I-HARDSENT) c z) before n after hardReset sent)
+      (sending _ c (and-then _ b (and-then _ a x (hides failBits) b y) (raisesA I-HARDSENT) c z) before n after hardResetFrame sent)
 
   pub control3-rests : has SEND-HARD-RESET v ≡ false → Arranged d → Does (control3Written v (view d)) before (done d 0) before
   unfolding control3Written

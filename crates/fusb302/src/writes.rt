@@ -231,7 +231,7 @@ impl Device {
         self.done(0)
     }
 
-    fn written(mut self, address: u8, value: u8, symbols: &mut [u8]) -> Outcome
+    fn write_taken(mut self, address: u8, value: u8, symbols: &mut [u8]) -> Outcome
         requires { ⌜ Asks self × Refuses (view self) address value 0 × (frameRoom ≤ length (now symbols)) ⌝ }
         ensures { λ r. ⌜ Does (writes address value (view self)) (now (symbols .entry)) r (now (symbols .exit)) ⌝ }
     {
@@ -261,7 +261,7 @@ impl Device {
         }
         let no = self.write_no(address, value);
         if no == 0 {
-            return self.written(address, value, symbols);
+            return self.write_taken(address, value, symbols);
         }
         self.refuse(no)
     }

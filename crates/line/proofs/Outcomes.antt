@@ -8,7 +8,7 @@ use Rattle.line.specs.declared.read.Answer.the-variants.{Frame, SmallBuf
 use Rattle.line.specs.declared.write.Written.{Written}
 use Rattle.line.specs.declared.write.Written.the-variants.{Sent, SmallBuffer as SmallRoom, UnknownKind, WrongLength}
 use Rattle.line.specs.Write.{Wrote, sent, written}
-use Rattle.line.specs.Reader.{Said, read, no, noAt, said}
+use Rattle.line.specs.Reader.{Said, wasRead, saidNo, noAt, said}
 use Rattle.line.specs.Theorems.{OneMeaningWritten, OneMeaningSaid, OneCrc, OneRight, OneRest, OneWriting, OneReading, OneFirstReading}
 
 -- ---- the answer of a meaning
@@ -25,8 +25,8 @@ written-back UnknownKind = refl
 written-back WrongLength = refl
 
 answerOf : Said → Answer
-answerOf (read k n p) = Frame k n (record { at = p })
-answerOf (no n) = SmallBuffer
+answerOf (wasRead k n p) = Frame k n (record { at = p })
+answerOf (saidNo n) = SmallBuffer
 answerOf (noAt n p) = cond (eqb n 13) (NoFrame p) (cond (eqb n 14) (TooShort p) (WrongCrc p))
 
 answer-back : (r : Answer) → answerOf (said r) ≡ r

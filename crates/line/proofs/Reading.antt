@@ -19,7 +19,7 @@ use Rattle.line.specs.Crc.{crcRight}
 use Rattle.line.specs.Frame.{Shape, drawn}
 use Rattle.line.specs.Read.{Look, found, short, misfit, setAt, nibbleRun, mayEnd, endOr, bodyAt, withSet, afterSet, shapeAt, frame, wrongCrc, checked, firstOf, first}
 use Rattle.line.specs.Start.{startOf}
-use Rattle.line.specs.Reader.{octetRoom, read, saysOf, filled, Tells, Reads}
+use Rattle.line.specs.Reader.{octetRoom, wasRead, saysOf, filled, Tells, Reads}
 use Rattle.line.proofs.Nibbles.{nibbles-at}
 use Rattle.line.proofs.Looks.{Stands, Says}
 use Rattle.line.proofs.Starts.{IsKind, set-length, set-says}
@@ -144,7 +144,7 @@ module _ (array held : List ℕ) (s : Shape) (n : ℕ) (long : length (s .octets
         let q : checked s ≡ frame s = by-crc ∙ rw f refl in
         rw q
         (record {
-          says = ap₂ (read (s .kind)) (sym long) (omega arith);
+          says = ap₂ (wasRead (s .kind)) (sym long) (omega arith);
           leaves = g ∙ ap (sets before 0) held-is ∙ sets-front (s .octets) before (omega arith);
         })
 
@@ -232,7 +232,7 @@ module _ (line before : List ℕ) (at : ℕ) (room : octetRoom ≤ length before
           let s : Shape = record { kind = k; octets = [] } in
           let q : first (drop at line) ≡ frame (record { kind = k; octets = [] }) = shape-is ∙ simp (e, bare k h) in
           let n : length (drawn s) ≡ 4 = simp (bare k h, append-nil) (set-length k (set-stands (drop at line) start r k e .right)) in
-          by _ before (rw q (record { says = ap (λ (i : ℕ). read k 0 (at + i)) (sym n); leaves = refl }))
+          by _ before (rw q (record { says = ap (λ (i : ℕ). wasRead k 0 (at + i)) (sym n); leaves = refl }))
 
       pub set-message : k < sopKinds → (a : Answer) (after : List ℕ)
           → Tells at (firstOf (withSet k (bodyAt (drop 4 (drop at line))))) before a after → Reads line at before a after

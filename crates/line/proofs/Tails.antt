@@ -16,7 +16,7 @@ use Rattle.line.specs.declared.read.Cursor.{Cursor}
 use Rattle.line.specs.declared.read.FirstRead.{FirstRead}
 use Rattle.line.specs.Frame.{Shape, drawn, sealed, symbolsOf}
 use Rattle.line.specs.Read.{First, frame, wrongCrc, tooShort, noFrame, first}
-use Rattle.line.specs.Reader.{octetRoom, read, no, said, saysOf, filled, Tells, Reads, behind, span, IsTail, ReadsFirst}
+use Rattle.line.specs.Reader.{octetRoom, wasRead, saidNo, said, saysOf, filled, Tells, Reads, behind, span, IsTail, ReadsFirst}
 use Rattle.line.specs.Theorems.{LeavesRest, FirstReadBack}
 use Rattle.line.proofs.Exactly.{reads-back, frame-exactly}
 
@@ -33,11 +33,11 @@ frame-lies line s e =
 record Told (line : List ℕ) (at kind count place : ℕ) (before after : List ℕ) : Type 0 where
   shape : Shape
   stands : first line ≡ frame shape
-  says : read kind count place ≡ saysOf at (frame shape)
+  says : wasRead kind count place ≡ saysOf at (frame shape)
   leaves : after ≡ filled (frame shape) before
 
 told : (line : List ℕ) (at kind count place : ℕ) (before after : List ℕ) (b : Bool) (f : First) → first line ≡ f
-    → read kind count place ≡ cond b (no 12) (saysOf at f) → after ≡ cond b before (filled f before) → Told line at kind count place before after
+    → wasRead kind count place ≡ cond b (saidNo 12) (saysOf at f) → after ≡ cond b before (filled f before) → Told line at kind count place before after
 unfolding saysOf
 told line at kind count place before after true f e p q = let z : _≡_ {A = ℕ} 0 1 = cc in absurd (omega arith)
 told line at kind count place before after false (frame s) e p q = record { shape = s; stands = e; says = p; leaves = q }
@@ -51,7 +51,7 @@ leaves-rest line rest at kind count next before after r t =
     let l = drop at (now line) in
     let w = told l at kind count (next .at) before after (ltb (length before) octetRoom) (first l) refl (r .says) (r .leaves) in
     let s = w .shape in
-    let says : read kind count (next .at) ≡ read (s .kind) (length (s .octets)) (at + length (drawn s)) = w .says in
+    let says : wasRead kind count (next .at) ≡ wasRead (s .kind) (length (s .octets)) (at + length (drawn s)) = w .says in
     let same-kind : kind ≡ s .kind = cc in
     let long : length (s .octets) ≡ count = cc in
     let place : next .at ≡ at + length (drawn s) = cc in
@@ -94,7 +94,7 @@ behind-first (wrongCrc p) = refl
 behind-first (tooShort p) = refl
 behind-first (noFrame p) = refl
 
-behind-said : (b : Bool) (f : First) → behind 0 (cond b (no 12) (saysOf 0 f)) ≡ cond b 0 (span f)
+behind-said : (b : Bool) (f : First) → behind 0 (cond b (saidNo 12) (saysOf 0 f)) ≡ cond b 0 (span f)
 unfolding behind
 behind-said true f = refl
 behind-said false f = behind-first f
@@ -114,7 +114,7 @@ with-room line at b r a h p =
     let t = le-ltb (length b) octetRoom h in
     let f = first (drop at line) in
     record {
-      says = p .says ∙ ap (λ (x : Bool). cond x (no 12) (saysOf at f)) t;
+      says = p .says ∙ ap (λ (x : Bool). cond x (saidNo 12) (saysOf at f)) t;
       leaves = p .leaves ∙ ap (λ (x : Bool). cond x b (filled f b)) t;
     }
 

@@ -13,7 +13,7 @@ use Rattle.line.specs.Frame.{Frame, symbolsOf}
 use Rattle.line.specs.Refusal.{firstNo}
 use Rattle.line.specs.Write.{writerRows}
 use Rattle.line.specs.Read.{first}
-use Rattle.line.specs.Reader.{Said, no, noAt, said, saysOf, Reads}
+use Rattle.line.specs.Reader.{Said, saidNo, noAt, said, saysOf, Reads}
 
 -- what the reader says of a record, given room
 abbrev pub readingOf : List ℕ → Said
@@ -37,7 +37,7 @@ pub record Examples : Type 0 where
   pub no-symbol : readingOf (started 1 ++ (32 ∷ [])) ≡ noAt 13 5
   pub wrong-crc : readingOf (started 12 ++ (eop ∷ [])) ≡ noAt 15 16
   pub room-72 : firstNo (writerRows tank 72) ≡ some 12
-  pub room-33 : (line after : List ℕ) (at : ℕ) (r : Answer) → Reads line at (replicate 33 0) r after → said r ≡ no 12
+  pub room-33 : (line after : List ℕ) (at : ℕ) (r : Answer) → Reads line at (replicate 33 0) r after → said r ≡ saidNo 12
   pub check-value : crcOf (0x31 ∷ 0x32 ∷ 0x33 ∷ 0x34 ∷ 0x35 ∷ 0x36 ∷ 0x37 ∷ 0x38 ∷ 0x39 ∷ []) ≡ 0xCBF4_3926
   pub tank-long : length (symbolsOf tank) ≡ 25
   pub tank-set : take 4 (symbolsOf tank) ≡ 0x18 ∷ 0x18 ∷ 0x18 ∷ 0x11 ∷ []

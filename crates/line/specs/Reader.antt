@@ -19,20 +19,20 @@ octetRoom = 34
 
 -- what the reader says, in 01's numbers: kind, count of octets with CRC and next place; or a number of no, 13 to 15 with a place
 pub data Said : Type 0 where
-  read : ℕ → ℕ → ℕ → Said
-  no : ℕ → Said
+  wasRead : ℕ → ℕ → ℕ → Said
+  saidNo : ℕ → Said
   noAt : ℕ → ℕ → Said
 
 abbrev pub said : Answer → Said
-said (Frame k n c) = read k n (c .at)
-said SmallBuffer = no 12
+said (Frame k n c) = wasRead k n (c .at)
+said SmallBuffer = saidNo 12
 said (NoFrame p) = noAt 13 p
 said (TooShort p) = noAt 14 p
 said (WrongCrc p) = noAt 15 p
 
 -- what it says of the record from `at` on
 unfoldable pub saysOf : ℕ → First → Said
-saysOf at (frame s) = read (s .kind) (length (s .octets)) (at + length (drawn s))
+saysOf at (frame s) = wasRead (s .kind) (length (s .octets)) (at + length (drawn s))
 saysOf at (wrongCrc p) = noAt 15 p
 saysOf at (tooShort p) = noAt 14 p
 saysOf at (noFrame p) = noAt 13 p
@@ -50,15 +50,15 @@ pub record Tells (at : ℕ) (f : First) (before : List ℕ) (r : Answer) (after 
   pub leaves : after ≡ filled f before
 
 pub record Reads (line : List ℕ) (at : ℕ) (before : List ℕ) (r : Answer) (after : List ℕ) : Type 0 where
-  pub says : said r ≡ cond (ltb (length before) octetRoom) (no 12) (saysOf at (first (drop at line)))
+  pub says : said r ≡ cond (ltb (length before) octetRoom) (saidNo 12) (saysOf at (first (drop at line)))
   pub leaves : after ≡ cond (ltb (length before) octetRoom) before (filled (first (drop at line)) before)
 
 -- ---- the rest of the record
 
 -- the place after a read at `at`: behind a frame, and the same where there is none
 unfoldable pub behind : ℕ → Said → ℕ
-behind at (read k n p) = p
-behind at (no n) = at
+behind at (wasRead k n p) = p
+behind at (saidNo n) = at
 behind at (noAt n p) = at
 
 -- r is the lent slice from n on and no copy of it: the same memory, so many symbols further, at most at its end

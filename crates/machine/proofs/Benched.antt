@@ -10,7 +10,7 @@ use lib.Dec.{eqb}
 use lib.ListN.{length}
 use Rattle.line.specs.Frame.{joined}
 use Rattle.line.specs.Read.{first}
-use Rattle.line.specs.Reader.{Said, no as saidNo, noAt, read as wasRead, saysOf}
+use Rattle.line.specs.Reader.{Said, saidNo, noAt, wasRead, saysOf}
 use Rattle.machine.specs.Step.{step, after, replies}
 use Rattle.machine.specs.State.{powerUp}
 use Rattle.machine.specs.Queue.{sameList}
@@ -93,7 +93,7 @@ unfolding allHold
 all-shown [] h = tt
 all-shown (c ∷ cs) h = let b = both (holds c) (allHold cs) h in (shown c (b .0), all-shown cs (b .1))
 
--- ---- 8. The table
+-- ---- the table
 
 pub benched : Benched
 unfolding computed sameReply sameSaid holds allHold

@@ -1,4 +1,4 @@
--- Retries are real: what a request sends from its start to its end, while nothing but waits that run out happens.
+-- Retries are real: what a request sends and shows from its start to its end, while nothing but time passes.
 -- Assumes nothing.
 use mathlib.Core.Path.{_≡_, refl, sym, ap, _∙_, subst}
 use mathlib.Core.Bool.{Bool, true, false, not, cond, _&&_, _||_, true≢false}
@@ -25,7 +25,7 @@ use Rattle.machine.specs.Requests.{
   sends,
   sendsIf,
   wait,
-  hardReset,
+  hardResetFrame,
   softResetOf,
   flightIn,
   latched,
@@ -89,7 +89,7 @@ data Stage (q : Request) (f : Frame) (base : State) : ℕ → State → List Fra
       (replicate (suc (q .retries)) f ++ replicate (suc (q .retries)) (softResetOf q))
   hard-reset : {n : ℕ} → q .soft ≡ true → q .hard ≡ true → endOf q + endOf q ≤ n
       → Stage q f base n (raisesA I-HARDSENT (softFailed (failed base)))
-      (replicate (suc (q .retries)) f ++ replicate (suc (q .retries)) (softResetOf q) ++ (hardReset ∷ []))
+      (replicate (suc (q .retries)) f ++ replicate (suc (q .retries)) (softResetOf q) ++ (hardResetFrame ∷ []))
 
 one-more : (n : ℕ) (f : Frame) → replicate n f ++ (f ∷ []) ≡ replicate (suc n) f
 one-more n f = let count : n + 1 ≡ suc n = omega arith in rw count at (replicate-append-replicate n 1 f)
@@ -139,7 +139,7 @@ module _ (q : Request) (f : Frame) (base : State) where
       unfolding elapses expires fails messageFails
       message-ends soft = rw (le-ltb t wait long, le-ltb k (q .retries) last, soft) refl
 
-      reset-hard : q .hard ≡ true → Comes softReset k w t s (sends hardReset (raisesA I-HARDSENT (softFailed s)))
+      reset-hard : q .hard ≡ true → Comes softReset k w t s (sends hardResetFrame (raisesA I-HARDSENT (softFailed s)))
       unfolding elapses expires fails softFails
       reset-hard hard = rw (le-ltb t wait long, le-ltb k (q .retries) last, hard) refl
 
@@ -349,8 +349,8 @@ step-opens : (s : State) (room a v : ℕ) (f : Frame) → starts s a v ≡ true 
 unfolding step resultOf accepted
 step-opens s room a v f h taken q = rw taken (writes-open s a v f h (rw taken at q))
 
-opened : (s : State) (e : Event) (f : Frame) → Started s e f → Opened s (step s e .state) f
-opened s e f st =
+start-opened : (s : State) (e : Event) (f : Frame) → Started s e f → Opened s (step s e .state) f
+start-opened s e f st =
     subst (StepOpens s f) (sym (st .is)) (step-opens s (st .room) (st .address) (st .octet) f (st .starting)) (st .taken) (st .sent)
 
 -- ---- what has left at a stage
@@ -375,7 +375,7 @@ module _ (q : Request) (f : Frame) (base : State) where
       rw (is, d) (sym (take-first (suc k) (suc (q .retries)) f (sequel q) (omega arith)))
   stage-sent (resetting k w {n} soft few short is) =
       let d : suc (q .retries) + suc k ≡ suc (n / wait) = omega arith in
-      let all = replicate (suc (q .retries)) f ++ (replicate (suc (q .retries)) (softResetOf q) ++ cond (q .hard) (hardReset ∷ []) []) in
+      let all = replicate (suc (q .retries)) f ++ (replicate (suc (q .retries)) (softResetOf q) ++ cond (q .hard) (hardResetFrame ∷ []) []) in
       rw soft
       (sym (take-behind (suc k) (suc (q .retries)) f _
       ∙ ap (λ (l : List Frame). replicate (suc (q .retries)) f ++ l) (take-first (suc k) (suc (q .retries)) (softResetOf q) _ (omega arith)))
@@ -397,9 +397,9 @@ module _ (q : Request) (f : Frame) (base : State) where
       let resets = replicate (suc (q .retries)) (softResetOf q) in
       let one = length-replicate (suc (q .retries)) f in
       let two = length-replicate (suc (q .retries)) (softResetOf q) in
-      let both = length-append messages (resets ++ (hardReset ∷ [])) in
-      let last = length-append resets (hardReset ∷ []) in
-      rw (soft, hard) (append-assoc messages resets (hardReset ∷ []) ∙ sym (take-all (suc (n / wait)) (messages ++ (resets ++ (hardReset ∷ []))) (omega arith)))
+      let both = length-append messages (resets ++ (hardResetFrame ∷ [])) in
+      let last = length-append resets (hardResetFrame ∷ []) in
+      rw (soft, hard) (append-assoc messages resets (hardResetFrame ∷ []) ∙ sym (take-all (suc (n / wait)) (messages ++ (resets ++ (hardResetFrame ∷ []))) (omega arith)))
 
 -- ---- what a stage shows
 
@@ -502,9 +502,9 @@ module _ (s : State) (f : Frame) (t : State) (o : Opened s t f) where
 
 module _ (s : State) (e : Event) (f : Frame) (room : ℕ) (enough : frameRoom ≤ room) (st : Started s e f) where
   started-runs : (ns : List ℕ) → AllParts ns
-      → Stage (latched s) f (opened s e f st .base) (inAll ns) (after s (e ∷ passing room ns)) (frames s (e ∷ passing room ns))
+      → Stage (latched s) f (start-opened s e f st .base) (inAll ns) (after s (e ∷ passing room ns)) (frames s (e ∷ passing room ns))
   started-runs ns parts =
-      let o = opened s e f st in
+      let o = start-opened s e f st in
       let first : Stage (latched s) f (o .base) 0 (step s e .state) (f ∷ []) = rw (o .is) (sending 0 0 {n = 0} (omega arith) (omega arith) refl) in
       let then = first-then s e (passing room ns) refl (st .sent) in
       let sum : 0 + inAll ns ≡ inAll ns = omega arith in
@@ -514,7 +514,7 @@ pub sent-to-the-end : SentToTheEnd
 sent-to-the-end s e f room ns enough parts st = stage-sent (latched s) f _ (started-runs s e f room enough st ns parts)
 
 pub fails-exactly : FailsExactly
-fails-exactly s e f room ns enough parts st = stage-shows s f _ (opened s e f st) (latched s) (started-runs s e f room enough st ns parts)
+fails-exactly s e f room ns enough parts st = stage-shows s f _ (start-opened s e f st) (latched s) (started-runs s e f room enough st ns parts)
 
 -- ---- while there are retries to send, the next wait sends one
 
@@ -537,6 +537,6 @@ pub next-sent : (s : State) (e : Event) (f : Frame) (room : ℕ) → frameRoom �
     → step (after s (e ∷ waits room n)) (pass room wait) .frames ≡ f ∷ []
 next-sent s e f room enough st n more =
     let parts = all-waits n in
-    let o = opened s e f st in
+    let o = start-opened s e f st in
     pass-step _ room wait enough (omega arith) .1
     ∙ stage-again (latched s) f (o .base) (o .spells) (started-runs s e f room enough st (replicate n wait) (parts .0)) n (parts .1) more

@@ -72,7 +72,7 @@ use Rattle.machine.specs.Requests.{
   failBits,
   start,
   sendHardReset,
-  hardReset,
+  hardResetFrame,
   hardResetHeard,
   goesOn,
   messageFails,
@@ -84,7 +84,7 @@ use Rattle.machine.specs.Requests.{
   acknowledged,
 }
 use Rattle.machine.specs.Packets.{kindOn, fitsRx, repliesTo, rxToken, onlyIf, awaited, softResetHeard, noted, keeps, stores, accepts, hears}
-use Rattle.machine.specs.Events.{Event, write, read, pass, hardReset as heardReset, packet, Fits}
+use Rattle.machine.specs.Events.{Event, write, read, pass, hardReset, packet, Fits}
 use Rattle.machine.specs.Refusals.{
   txStart,
   portStart,
@@ -170,7 +170,7 @@ control-whole : (type k sw id : ℕ) → k < sopKinds → Whole (control type k 
 unfolding twoOctets
 control-whole type k sw id h = message h (mod-lt _ (lit< tt), (mod-lt _ (lit< tt), tt)) (omega arith) (omega arith)
 
-reset-whole : Whole hardReset
+reset-whole : Whole hardResetFrame
 reset-whole = alone (omega arith) (omega arith) refl
 
 -- ---- start
@@ -223,7 +223,7 @@ module _ (s : State) (g : Good s) (q : Request) (r : RequestGood q (s .tx)) wher
       (λ e. quiet _ t)
   fails-fine softReset w h =
       let t = keeps-raises-a _ (keeps-shows _ (keeps-over s g) SOFTFAIL refl) I-SOFTFAIL refl in
-      by-test (q .hard) _ _ (λ e. sent hardReset _ reset-whole (keeps-raises-a _ t I-HARDSENT refl)) (λ e. quiet _ t)
+      by-test (q .hard) _ _ (λ e. sent hardResetFrame _ reset-whole (keeps-raises-a _ t I-HARDSENT refl)) (λ e. quiet _ t)
 
   expires-fine : (w : ℕ) → w < wait → Fine (expires w q s)
   unfolding expires
@@ -350,7 +350,7 @@ module _ (s : State) (g : Good s) (room v : ℕ) (octet : v < 256) where
       (λ e. quiet _ (keeps-when _ t (has RX-FLUSH v) (withRx []) (keeps-rx _ t [] tt (omega arith))))
       (λ e. by-test (eqb a control3) _ _
       (λ e. by-test (has SEND-HARD-RESET v) _ _
-      (λ e. sent hardReset _ reset-whole (keeps-raises-a _ (keeps-hides _ (keeps-over _ t) failBits) I-HARDSENT refl))
+      (λ e. sent hardResetFrame _ reset-whole (keeps-raises-a _ (keeps-hides _ (keeps-over _ t) failBits) I-HARDSENT refl))
       (λ e. quiet _ t))
       (λ e. by-test (eqb a reset) _ _
       (λ e. quiet _ (restarts (has SW-RES v) (keeps-when _ t (has PD-RESET v) pdReset (keeps-rx _ (keeps-status _ (keeps-over _ t) cleared refl tt) [] tt (omega arith)))))
@@ -383,7 +383,7 @@ accepted-fine s (write r a v) g f rows = writes-fine s g r v (f .1) a rows
 accepted-fine s (read r a) g f rows = quiet _ (reads-fine s g a)
 accepted-fine s (pass r n) g f rows =
     passes-fine s g n (ltb-false 1000 n (rows .1 .1 .1 .1 .1 .1 .1 .1 .1 .1 .1 .0)) (s .request) (g .request)
-accepted-fine s (heardReset r) g f rows = quiet _ (keeps-raises-a _ (keeps-shows _ (keeps-over s g) HARDRST refl) I-HARDRST refl)
+accepted-fine s (hardReset r) g f rows = quiet _ (keeps-raises-a _ (keeps-shows _ (keeps-over s g) HARDRST refl) I-HARDRST refl)
 accepted-fine s (packet r k m) g f rows =
     hears-fine k m (let z = ltb-false 4 k (rows .1 .1 .1 .1 .1 .1 .1 .1 .1 .0) in omega arith) (f .1) s g
 

@@ -16,7 +16,7 @@ use Rattle.machine.specs.Registers.{storedBits, cell, switches1, has}
 use Rattle.machine.specs.State.{Phase, message, softReset, Request, State, withCells, withTx, withRequest, shows, raises, raisesA}
 use Rattle.machine.specs.Status.{txFull, RETRYFAIL, I-RETRYFAIL, I-ALERT}
 use Rattle.machine.specs.Queue.{inside}
-use Rattle.machine.specs.Requests.{Effect, silent, sendsIf, over, wait, softResetOf, hardReset, flight, flightIn, goesOn, messageFails, softFails, fails, expires, elapses, passes}
+use Rattle.machine.specs.Requests.{Effect, silent, sendsIf, over, wait, softResetOf, hardResetFrame, flight, flightIn, goesOn, messageFails, softFails, fails, expires, elapses, passes}
 use Rattle.machine.specs.Packets.{onlyIf}
 use Rattle.machine.specs.Events.{pass}
 use Rattle.machine.specs.Refusals.{no12, no1, no2, no6, no3, no5, no4, no7, no8, no11, no9, no10, refusal}
@@ -102,7 +102,7 @@ module _ (m : ℕ) where
     unfolding fails messageFails softFails
     fails-onward message =
         onward-cond (q .soft) _ _ _ _ (still (softResetOf q ∷ []) (goesOn softReset 0 w q) (raisesA I-RETRYFAIL (shows RETRYFAIL (over s))) h) (idle [] _ refl)
-    fails-onward softReset = onward-cond (q .hard) _ _ _ _ (idle (hardReset ∷ []) _ refl) (idle [] _ refl)
+    fails-onward softReset = onward-cond (q .hard) _ _ _ _ (idle (hardResetFrame ∷ []) _ refl) (idle [] _ refl)
 
     expires-onward : onward m (expires w q s) ≡ expires (w + m) q s
     unfolding expires

@@ -35,8 +35,8 @@ opened s = isSome (s .request)
 unfoldable pub driverOn : ℕ → Bool
 driverOn sw = eqb (bitAnd sw TXCC) 1 || eqb (bitAnd sw TXCC) 2
 
-abbrev pub hardReset : Frame
-hardReset = record { kind = 5; octets = [] }
+abbrev pub hardResetFrame : Frame
+hardResetFrame = record { kind = 5; octets = [] }
 
 -- the Soft_Reset that follows a message which failed: on SOP, MessageID 0, by the latched Switches1
 abbrev pub softResetOf : Request → Frame
@@ -85,7 +85,7 @@ abbrev pub acknowledged : State → State
 acknowledged s = raisesA I-TXSENT (over s)
 
 unfoldable pub sendHardReset : State → Effect
-sendHardReset s = sends hardReset (raisesA I-HARDSENT (hides failBits (over s)))
+sendHardReset s = sends hardResetFrame (raisesA I-HARDSENT (hides failBits (over s)))
 
 unfoldable pub hardResetHeard : State → State
 hardResetHeard s = raisesA I-HARDRST (shows HARDRST (over s))
@@ -110,7 +110,7 @@ messageFails w q s =
 unfoldable pub softFails : Request → State → Effect
 softFails q s =
     let t = raisesA I-SOFTFAIL (shows SOFTFAIL (over s)) in
-    cond (q .hard) (sends hardReset (raisesA I-HARDSENT t)) (silent t)
+    cond (q .hard) (sends hardResetFrame (raisesA I-HARDSENT t)) (silent t)
 
 unfoldable pub fails : Phase → ℕ → Request → State → Effect
 fails message w q s = messageFails w q s

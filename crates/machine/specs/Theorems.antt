@@ -45,7 +45,7 @@ use Rattle.machine.specs.Status.{
 }
 use Rattle.machine.specs.Queue.{START, closing, setSymbol, inside, spelt}
 use Rattle.machine.specs.Headers.{GoodCRC, isControl}
-use Rattle.machine.specs.Requests.{wait, hardReset, opened, driverOn, softResetOf, latched}
+use Rattle.machine.specs.Requests.{wait, hardResetFrame, opened, driverOn, softResetOf, latched}
 use Rattle.machine.specs.Packets.{kindOn, awaited}
 use Rattle.machine.specs.Events.{Event, write, read, pass, packet, Fits, Reply, no, value, onRead}
 use Rattle.machine.specs.Refusals.{starts, table, refusal}
@@ -193,7 +193,7 @@ pub record Started (s : State) (e : Event) (f : Frame) : Type 0 where
 abbrev pub sequel : Request → List Frame
 sequel q =
     cond (q .soft)
-    (replicate (suc (q .retries)) (softResetOf q) ++ cond (q .hard) (hardReset ∷ []) [])
+    (replicate (suc (q .retries)) (softResetOf q) ++ cond (q .hard) (hardResetFrame ∷ []) [])
     []
 
 -- while nothing but time passes, one frame leaves at the start and one at each 1,000 microseconds: the message r + 1 times, and then its sequel
@@ -204,15 +204,15 @@ SentToTheEnd =
     ≡ take (suc (inAll ns / wait)) (replicate (suc (latched s .retries)) f ++ sequel (latched s))
 
 -- what a start in s has come to in t: whether the message failed, the Soft_Reset failed, a Hard Reset left, and the request is open;
--- of the interrupts, those that were set before stay, and no other is set
-pub record ComesTo (s t : State) (failed softFailed hardSent goesOn : Bool) : Type 0 where
+-- of these three interrupts, those that were set before stay, and no other is set
+pub record ComesTo (s t : State) (failed softFailed hardSent isOpen : Bool) : Type 0 where
   pub retryfail : has RETRYFAIL (t .status .status0a) ≡ failed
   pub softfail : has SOFTFAIL (t .status .status0a) ≡ softFailed
   pub i-retryfail : has I-RETRYFAIL (t .ints .a) ≡ (failed || has I-RETRYFAIL (s .ints .a))
   pub i-softfail : has I-SOFTFAIL (t .ints .a) ≡ (softFailed || has I-SOFTFAIL (s .ints .a))
   pub i-hardsent : has I-HARDSENT (t .ints .a) ≡ (hardSent || has I-HARDSENT (s .ints .a))
   pub queue : t .tx ≡ cond failed [] (s .tx)
-  pub request : opened t ≡ goesOn
+  pub request : opened t ≡ isOpen
 
 -- the message fails at (r + 1) times 1,000 microseconds, the Soft_Reset at twice that, and neither earlier
 abbrev pub FailsExactly : Type 0

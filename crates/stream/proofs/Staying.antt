@@ -21,12 +21,12 @@ more-inside : (b : Bool) {i r : Input} {before after : List ℕ} → InBuffer i 
 more-inside true h p = rw (p .stood refl .0) h
 more-inside false h p = let z = p .came refl .0 in let n = p .came refl .1 in (omega arith, n)
 
-pub written-ready : (s r : Stream) → Ready s → WritesOut s r → Ready r
-written-ready s r h p = subst Ready (sym (p .leaves)) (record { input = h .input; output = omega arith })
+pub write-out-ready : (s r : Stream) → Ready s → WritesOut s r → Ready r
+write-out-ready s r h p = subst Ready (sym (p .leaves)) (record { input = h .input; output = omega arith })
 
 makes-ready : (b : Bool) (s r : Stream) → Ready s → MakesRoom b s r → Ready r
 makes-ready true s r h p = rw p h
-makes-ready false s r h p = written-ready s r h p
+makes-ready false s r h p = write-out-ready s r h p
 
 pub room-ready : (s r : Stream) (need : ℕ) (out : List ℕ) → Ready s → MakesRoom (hasRoom need out (s .used)) s r → Ready r
 room-ready s r need out h p = makes-ready (hasRoom need out (s .used)) s r h p
@@ -44,7 +44,7 @@ pub stepped-ready : (s : Stream) (input : Input) (used : ℕ) (ends : Bool) (r :
 stepped-ready s input used ends r h k p = subst Ready (sym (p .leaves)) (record { input = h; output = k })
 
 pub stays-ready : StaysReady
-stays-ready = record { begin = begin-ready; written = written-ready; room = room-ready; fill = fill-ready; stepped = stepped-ready }
+stays-ready = record { begin = begin-ready; write-out = write-out-ready; room = room-ready; fill = fill-ready; stepped = stepped-ready }
 
 pub room-is-made : RoomIsMade
 room-is-made s r need out fits = go (hasRoom need out (s .used)) refl

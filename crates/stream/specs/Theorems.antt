@@ -15,7 +15,7 @@ use Rattle.stream.specs.Promises.{BeginsFresh, WritesOut, MakesRoom, Fil
 
 pub record StaysReady : Type 0 where
   pub begin : (r : Stream) → BeginsFresh r → Ready r
-  pub written : (s r : Stream) → Ready s → WritesOut s r → Ready r
+  pub write-out : (s r : Stream) → Ready s → WritesOut s r → Ready r
   pub room : (s r : Stream) (need : ℕ) (out : List ℕ) → Ready s → MakesRoom (hasRoom need out (s .used)) s r → Ready r
   pub fill : (s r : Stream) (before after : List ℕ) → Ready s → Fills (octetWaits (s .input)) s before r after → Ready r
   pub stepped : (s : Stream) (input : Input) (used : ℕ) (ends : Bool) (r : Stream) → InBuffer input → used ≤ bufferRoom

@@ -63,7 +63,7 @@ fn least(a: usize, b: usize) -> usize
 }
 
 // Writes what is printed. That the octets go out, and that the run ends where they do not, is only run: the kit promises nothing of a write.
-pub fn written(s: Stream, out: &[u8]) -> Stream
+pub fn write_out(s: Stream, out: &[u8]) -> Stream
     ensures { λ r. ⌜ WritesOut s r ⌝ }
 {
     let used = least(s.used, out.len());
@@ -71,17 +71,17 @@ pub fn written(s: Stream, out: &[u8]) -> Stream
     flush(s, went)
 }
 
-// As it stands if `need` more fit behind what is printed, else `written`.
+// As it stands if `need` more fit behind what is printed, else `write_out`.
 pub fn room(s: Stream, need: usize, out: &[u8]) -> Stream
     ensures { λ r. ⌜ MakesRoom (hasRoom need (now (out .entry)) (s .used)) s r ⌝ }
 {
     if has_room(need, out.len(), s.used) {
         return s;
     }
-    written(s, out)
+    write_out(s, out)
 }
 
-// As it stands if an octet is there to take; else `written` and, where the run goes on, what one read gives. That the write comes first is only run.
+// As it stands if an octet is there to take; else `write_out` and, where the run goes on, what one read gives. That the write comes first is only run.
 pub fn fill(s: Stream, buf: &mut [u8; 65536], out: &[u8]) -> Stream
     ensures { λ r. ⌜ Fills (octetWaits (s .input)) s (now (buf .entry)) r (now (buf .exit)) ⌝ }
 {
@@ -89,7 +89,7 @@ pub fn fill(s: Stream, buf: &mut [u8; 65536], out: &[u8]) -> Stream
     if input.at < input.end {
         return s;
     }
-    let mut r = written(s, out);
+    let mut r = write_out(s, out);
     if r.on {
         r.input = more(input, buf);
     }

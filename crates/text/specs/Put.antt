@@ -10,7 +10,7 @@ use lib.Seq.{sets}
 use Rattle.text.specs.Ascii.{text}
 use Rattle.text.specs.Hex.{hexOf}
 
--- a number in decimal, of at most so many digits
+-- a number in decimal, in at most so many digits: of a longer one the last so many
 unfoldable pub decimalOf : ℕ → ℕ → List ℕ
 decimalOf zero n = []
 decimalOf (suc k) n = cond (ltb n 10) ((48 + n) ∷ []) (decimalOf k (n / 10) ++ ((48 + n % 10) ∷ []))

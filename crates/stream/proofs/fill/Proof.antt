@@ -10,8 +10,8 @@ use Rattle.stream.proofs.fill.Tie as tie
 returns : tie.Need-returns
 returns c = rw (lt-ltb _ _ (c .if1 .taken)) (refl, refl)
 
-written-requires : tie.Need-written-requires
-written-requires c κs = search needs
+write-out-requires : tie.Need-write-out-requires
+write-out-requires c κs = search needs
 
 more-requires : tie.Need-more-requires
 more-requires c κs = search needs
@@ -19,7 +19,7 @@ more-requires c κs = search needs
 returns-2 : tie.Need-returns-2
 returns-2 c =
     let test = c .before .before in
-    let wrote = test .before .written .ensures in
+    let wrote = test .before .write-out .ensures in
     let none = le-ltb _ _ (test .before .before .if1 .left) in
     rw none (
     record {
@@ -32,7 +32,7 @@ returns-2 c =
 
 returns-3 : tie.Need-returns-3
 returns-3 c =
-    let wrote = c .before .written .ensures in
+    let wrote = c .before .write-out .ensures in
     rw (le-ltb _ _ (c .before .before .if1 .left)) (
     record {
       went = wrote .went;
@@ -43,4 +43,4 @@ returns-3 c =
     )
 
 pub fill-spec : {M : Type 1} → statement M
-fill-spec = tie.close (tie.spec returns written-requires more-requires returns-2 returns-3)
+fill-spec = tie.close (tie.spec returns write-out-requires more-requires returns-2 returns-3)

@@ -14,8 +14,8 @@ returns c = rw (c .refuse .ensures) (write-small _ (c .before .before .before .p
 write-no-requires : tie.Need-write-no-requires
 write-no-requires c κs = search needs
 
-written-requires : tie.Need-written-requires
-written-requires c κs =
+write-taken-requires : tie.Need-write-taken-requires
+write-taken-requires c κs =
     let at-if1 = c .before .before .before in
     let entry = at-if1 .before .before in
     (entry .pre, rw (c .before .if2 .taken) at (c .before .before .write-no .ensures), at-if1 .if1 .left)
@@ -29,7 +29,7 @@ returns-2 c =
     let at-write-no = at-if2 .before in
     let at-if1 = at-write-no .before in
     let entry = at-if1 .before .before in
-    write-taken _ (entry .pre) _ _ _ (at-if1 .if1 .left) (rw (at-if2 .if2 .taken) at (at-write-no .write-no .ensures)) (omega arith) (omega arith) _ _ (c .before .before .written .ensures)
+    write-taken _ (entry .pre) _ _ _ (at-if1 .if1 .left) (rw (at-if2 .if2 .taken) at (at-write-no .write-no .ensures)) (omega arith) (omega arith) _ _ (c .before .before .write-taken .ensures)
 
 refuse-requires-2 : tie.Need-refuse-requires-2
 refuse-requires-2 c κs = search needs
@@ -47,7 +47,7 @@ write-spec =
     refuse-requires
     returns
     write-no-requires
-    written-requires
+    write-taken-requires
     same-length
     returns-2
     refuse-requires-2

@@ -3,8 +3,8 @@ use borrow.Author.Needs.{needs}
 use native.Mathlib.Omega.{arith}
 use Rattle.fusb302.proofs.Refusing.{taken-stored, no-flush}
 use Rattle.fusb302.proofs.Writing.{quiet-does, stored-arranged, written-port, written-by, is-control0, is-control1, is-control3, is-reset, is-plain, rests}
-use Rattle.fusb302.proofs.device.Device.written.Statement.{statement}
-use Rattle.fusb302.proofs.device.Device.written.Tie as tie
+use Rattle.fusb302.proofs.device.Device.write_taken.Statement.{statement}
+use Rattle.fusb302.proofs.device.Device.write_taken.Tie as tie
 
 port-written-requires : tie.Need-port-written-requires
 port-written-requires c κs = (c .before .before .before .pre .0, rw (c .before .if1 .taken) at (c .before .before .before .pre .1), c .before .before .before .pre .2)
@@ -92,8 +92,8 @@ returns-6 c =
     rw (c .done .ensures)
     (written-by (entry .args .self) _ _ _ _ _ _ (c .before .before .stored-bits .ensures) (at-if1 .if1 .left) _ (is-plain _ _ _ (k .0 .0 .0 .1) (k .0 .0 .1) (k .0 .1) (k .1)) (rests _ (stored-arranged _ a _ _) _))
 
-pub written-spec : {M : Type 1} → statement M
-written-spec =
+pub write-taken-spec : {M : Type 1} → statement M
+write-taken-spec =
     tie.close
     (tie.spec
     port-written-requires

@@ -2,8 +2,8 @@
 use mathlib.Core.Path.{sym}
 use lib.Seq.{length-take-le}
 use borrow.Author.Needs.{needs}
-use Rattle.stream.proofs.written.Statement.{statement}
-use Rattle.stream.proofs.written.Tie as tie
+use Rattle.stream.proofs.write_out.Statement.{statement}
+use Rattle.stream.proofs.write_out.Tie as tie
 
 least-requires : tie.Need-least-requires
 least-requires c κs = search needs
@@ -20,7 +20,7 @@ flush-requires c κs = search needs
 returns : tie.Need-returns
 returns c = search needs
 
-pub written-spec : {M : Type 1} → statement M
-written-spec =
+pub write-out-spec : {M : Type 1} → statement M
+write-out-spec =
     tie.close
     (tie.spec least-requires slice-aggregate-write-all write-all-requires flush-requires returns)
