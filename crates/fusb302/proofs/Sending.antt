@@ -5,23 +5,19 @@ use mathlib.Core.Bool.{false}
 use mathlib.Core.List.{List, [], _∷_, append-nil}
 use mathlib.Core.Option.{none, some}
 use Prim.Native.Nat.{ℕ, zero, suc, _+_, _-_, _<_, _≤_}
-use native.Mathlib.Nat.{mod-lt}
 use native.Mathlib.Omega.{arith}
 use borrow.Author.Tests.{lt-ltb, le-ltb, eq-eqb}
-use lib.Dec.{lit<}
 use lib.ListN.{length, take, drop, length-take, length-drop, length-append}
 use lib.Seq.{take-take}
 use Rattle.line.specs.declared.write.Written.{Written}
 use Rattle.line.specs.declared.write.Written.the-variants.{Sent}
-use Rattle.line.specs.Kind.{kinds, sopKinds}
+use Rattle.line.specs.Kind.{kinds}
 use Rattle.line.specs.Frame.{Frame, Whole, message, alone, symbolsOf, joined}
 use Rattle.line.specs.Refusal.{firstNo}
 use Rattle.line.specs.Write.{frameRoom, wrongLength, writerRows, wrote, lent, Writes}
 use Rattle.line.proofs.Writing.{carrying, bare}
 use Rattle.line.proofs.Outcomes.{one-meaning-written}
-use Rattle.machine.specs.Headers.{twoOctets, control}
 use Rattle.machine.specs.Queue.{spelt}
-use Rattle.machine.specs.Requests.{hardResetFrame}
 use Rattle.machine.proofs.Spelling.{set-four, spelt-exactly}
 use Rattle.fusb302.specs.declared.queue.Queue.{Queue}
 use Rattle.fusb302.specs.declared.queue.Message.{Message}
@@ -53,13 +49,6 @@ module _ (f : Frame) (before : List ℕ) (r : Written) (after : List ℕ) (whole
       let said = put-said in
       let long : n ≡ length (symbolsOf f) = cc in
       record { count = rw all long; lent = rw all (w .leaves ∙ ap (λ o. lent o f before) accepts) }
-
-pub control-whole : (type k sw id : ℕ) → k < sopKinds → Whole (control type k sw id)
-unfolding twoOctets
-control-whole type k sw id h = message h (mod-lt _ (lit< tt), (mod-lt _ (lit< tt), tt)) (omega arith) (omega arith)
-
-pub reset-whole : Whole hardResetFrame
-reset-whole = alone (omega arith) (omega arith) refl
 
 pub sends-none : (before : List ℕ) → Sends [] before 0 before
 unfolding joined

@@ -1,7 +1,7 @@
 -- What follows the set of an SOP kind: octets as symbols, and EOP.
 -- Assumes nothing.
 use mathlib.Core.Path.{_≡_, refl, sym, ap, _∙_}
-use mathlib.Core.Bool.{Bool, true, false, cond, _&&_, true≢false}
+use mathlib.Core.Bool.{Bool, true, false, cond, _&&_, true≢false, and-eq-true-iff}
 use mathlib.Core.List.{List, [], _∷_, _++_, append-assoc}
 use Prim.Native.Nat.{ℕ, zero, suc, _+_, _*_, _-_, _%_, _<_, _≤_}
 use native.Mathlib.Omega.{arith}
@@ -56,10 +56,6 @@ run-back (s ∷ a) x (suc n) q h = simp (lt-ltb (nibbleOf s) 16 (q .0), run-back
 
 -- ---- where a message may end
 
-both-true : (a b : Bool) → (a && b) ≡ true → (a ≡ true) × (b ≡ true)
-both-true true b e = (refl, e)
-both-true false b e = let z : _≡_ {A = ℕ} 0 1 = cc in absurd (omega arith)
-
 pub record End (n s : ℕ) : Type 0 where
   pub is-eop : s ≡ eop
   pub many : 12 ≤ n
@@ -68,8 +64,8 @@ pub record End (n s : ℕ) : Type 0 where
 pub end-true : (n s : ℕ) → mayEnd n s ≡ true → End n s
 unfolding mayEnd
 end-true n s e =
-    let p = both-true (eqb s eop) (leb 12 n && eqb (n % 2) 0) e in
-    let q = both-true (leb 12 n) (eqb (n % 2) 0) (p .1) in
+    let p = and-eq-true-iff (eqb s eop) (leb 12 n && eqb (n % 2) 0) .0 e in
+    let q = and-eq-true-iff (leb 12 n) (eqb (n % 2) 0) .0 (p .1) in
     record { is-eop = eqb-true s eop (p .0); many = leb-true 12 n (q .0); even = eqb-true (n % 2) 0 (q .1) }
 
 true-end : (n s : ℕ) → End n s → mayEnd n s ≡ true

@@ -16,7 +16,7 @@ use Rattle.line.specs.Frame.{Octets}
 
 -- ---- lists of octets
 
-octets-append : (a b : List ℕ) → Octets a → Octets b → Octets (a ++ b)
+pub octets-append : (a b : List ℕ) → Octets a → Octets b → Octets (a ++ b)
 octets-append [] b p q = q
 octets-append (x ∷ xs) b p q = (p .0, octets-append xs b (p .1) q)
 
@@ -25,7 +25,7 @@ octets-take zero l o = tt
 octets-take (suc n) [] o = tt
 octets-take (suc n) (x ∷ xs) o = (o .0, octets-take n xs (o .1))
 
-octets-drop : (n : ℕ) (l : List ℕ) → Octets l → Octets (drop n l)
+pub octets-drop : (n : ℕ) (l : List ℕ) → Octets l → Octets (drop n l)
 octets-drop zero l o = o
 octets-drop (suc n) [] o = o
 octets-drop (suc n) (x ∷ xs) o = octets-drop n xs (o .1)

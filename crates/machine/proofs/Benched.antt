@@ -1,7 +1,7 @@
 -- The bench table, by one computed test.
 -- Assumes nothing.
 use mathlib.Core.Path.{_≡_, refl, ap, ap₂}
-use mathlib.Core.Bool.{Bool, true, false, _&&_}
+use mathlib.Core.Bool.{Bool, true, false, _&&_, and-eq-true-iff}
 use mathlib.Core.List.{List, [], _∷_}
 use Prim.Native.Nat.{ℕ}
 use native.Mathlib.Omega.{arith}
@@ -54,10 +54,6 @@ allHold (c ∷ cs) = holds c && allHold cs
 
 -- ---- what it shows
 
-both : (a b : Bool) → (a && b) ≡ true → (a ≡ true) × (b ≡ true)
-both true b e = (refl, e)
-both false b e = let z : _≡_ {A = ℕ} 0 1 = cc in absurd (omega arith)
-
 same-reply : (r s : Reply) → sameReply r s ≡ true → r ≡ s
 unfolding sameReply
 same-reply done done e = refl
@@ -72,7 +68,7 @@ same-reply (no m) (no n) e = ap no (eqb-true m n e)
 
 same-said : (r s : Said) → sameSaid r s ≡ true → r ≡ s
 unfolding sameSaid
-same-said (noAt m p) (noAt n q) e = let b = both (eqb m n) (eqb p q) e in ap₂ noAt (eqb-true m n (b .0)) (eqb-true p q (b .1))
+same-said (noAt m p) (noAt n q) e = let b = and-eq-true-iff (eqb m n) (eqb p q) .0 e in ap₂ noAt (eqb-true m n (b .0)) (eqb-true p q (b .1))
 same-said (noAt m p) (saidNo n) e = let z : _≡_ {A = ℕ} 0 1 = cc in absurd (omega arith)
 same-said (noAt m p) (wasRead k n q) e = let z : _≡_ {A = ℕ} 0 1 = cc in absurd (omega arith)
 same-said (saidNo n) t e = let z : _≡_ {A = ℕ} 0 1 = cc in absurd (omega arith)
@@ -81,17 +77,17 @@ same-said (wasRead k n q) t e = let z : _≡_ {A = ℕ} 0 1 = cc in absurd (omeg
 shown : (c : Case) → holds c ≡ true → CaseHolds c
 unfolding holds
 shown (device given e r symbols tx rx) h =
-    let a = both (allTaken (replies powerUp given)) _ h in
-    let b = both (sameReply (step (after powerUp given) e .reply) r) _ (a .1) in
-    let c = both (sameList (joined (step (after powerUp given) e .frames)) symbols) _ (b .1) in
-    let d = both (sameList (step (after powerUp given) e .state .tx) tx) _ (c .1) in
+    let a = and-eq-true-iff (allTaken (replies powerUp given)) _ .0 h in
+    let b = and-eq-true-iff (sameReply (step (after powerUp given) e .reply) r) _ .0 (a .1) in
+    let c = and-eq-true-iff (sameList (joined (step (after powerUp given) e .frames)) symbols) _ .0 (b .1) in
+    let d = and-eq-true-iff (sameList (step (after powerUp given) e .state .tx) tx) _ .0 (c .1) in
     (a .0, same-reply _ r (b .0), same-list _ symbols (c .0), same-list _ tx (d .0), eqb-true _ rx (d .1))
 shown (reader line said) h = same-said _ said h
 
 all-shown : (cs : List Case) → allHold cs ≡ true → AllHold cs
 unfolding allHold
 all-shown [] h = tt
-all-shown (c ∷ cs) h = let b = both (holds c) (allHold cs) h in (shown c (b .0), all-shown cs (b .1))
+all-shown (c ∷ cs) h = let b = and-eq-true-iff (holds c) (allHold cs) .0 h in (shown c (b .0), all-shown cs (b .1))
 
 -- ---- the table
 

@@ -2,12 +2,12 @@
 -- Assumes nothing.
 use mathlib.Core.Path.{refl}
 use mathlib.Core.Bool.{Bool, true, false, cond}
-use mathlib.Core.List.{List, [], _∷_, _++_}
+use mathlib.Core.List.{List, []}
 use mathlib.Core.Option.{Option, none, some}
-use Prim.Native.Nat.{ℕ, zero, suc, _-_, _<_, _≤_}
+use Prim.Native.Nat.{ℕ, _-_, _<_, _≤_}
 use native.Mathlib.Omega.{arith}
 use lib.Dec.{eqb}
-use lib.ListN.{length, drop}
+use lib.ListN.{length}
 use Rattle.line.specs.Frame.{Octets}
 use Rattle.line.specs.Kind.{sopKinds}
 use Rattle.machine.specs.Registers.{storedBits, stored, interrupta, interruptb, interrupt}
@@ -36,17 +36,6 @@ use Rattle.machine.specs.Packets.{onlyIf}
 use Rattle.machine.specs.Good.{Within, KindGood, OpenGood, RequestGood, Good}
 use Rattle.machine.proofs.Masks.{within-less, within-more, within-zero, cells-set}
 use Rattle.machine.specs.Theorems.{PowerUpGood}
-
--- ---- lists of octets
-
-pub octets-append : (a b : List ℕ) → Octets a → Octets b → Octets (a ++ b)
-octets-append [] b p q = q
-octets-append (x ∷ xs) b p q = (p .0, octets-append xs b (p .1) q)
-
-pub octets-drop : (n : ℕ) (l : List ℕ) → Octets l → Octets (drop n l)
-octets-drop zero l o = o
-octets-drop (suc n) [] o = o
-octets-drop (suc n) (x ∷ xs) o = octets-drop n xs (o .1)
 
 -- ---- power-up
 

@@ -1,4 +1,4 @@
--- The masks change nothing of a step: no test, no effect and no refusal reads them.
+-- The masks change nothing of a step: no test, no effect and no refusal reads them. Time reads no cell at all.
 -- Assumes nothing.
 use mathlib.Core.Path.{_≡_, refl, sym, ap, _∙_}
 use mathlib.Core.Bool.{Bool, true, false, cond, _||_, true≢false}

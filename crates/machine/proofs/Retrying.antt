@@ -1,7 +1,7 @@
 -- Retries are real: what a request sends and shows from its start to its end, while nothing but time passes.
 -- Assumes nothing.
 use mathlib.Core.Path.{_≡_, refl, sym, ap, _∙_, subst}
-use mathlib.Core.Bool.{Bool, true, false, not, cond, _&&_, _||_, true≢false}
+use mathlib.Core.Bool.{Bool, true, false, not, cond, _&&_, _||_, and-eq-true-iff}
 use mathlib.Core.List.{List, [], _∷_, _++_, append-nil, append-assoc}
 use mathlib.Core.Option.{Option, none, some}
 use Prim.Native.Nat.{ℕ, zero, suc, _+_, _*_, _-_, _/_, _<_, _≤_}
@@ -94,6 +94,15 @@ data Stage (q : Request) (f : Frame) (base : State) : ℕ → State → List Fra
 one-more : (n : ℕ) (f : Frame) → replicate n f ++ (f ∷ []) ≡ replicate (suc n) f
 one-more n f = let count : n + 1 ≡ suc n = omega arith in rw count at (replicate-append-replicate n 1 f)
 
+-- a wait goes on, or has run out
+pub before-the-end : (s : State) (q : Request) (t : ℕ) → t < wait → elapses t q s ≡ silent (withRequest (some (goesOn (q .phase) (q .sent) t q)) s)
+unfolding elapses
+before-the-end s q t h = simp (lt-ltb t wait h)
+
+pub past-the-end : (s : State) (q : Request) (t : ℕ) → wait ≤ t → elapses t q s ≡ expires (t - wait) q s
+unfolding elapses
+past-the-end s q t h = simp (le-ltb t wait h)
+
 module _ (q : Request) (f : Frame) (base : State) where
   -- the stage that an effect leads to, where these frames had left
   abbrev Goes : ℕ → List Frame → Effect → Type 0
@@ -118,8 +127,7 @@ module _ (q : Request) (f : Frame) (base : State) where
   Comes p k w t s x = elapses t (goesOn p k w q) (waiting p k w s) ≡ x
 
   waits-on : (p : Phase) (k w t : ℕ) (s : State) → t < wait → Comes p k w t s (silent (waiting p k t s))
-  unfolding elapses
-  waits-on p k w t s h = simp (lt-ltb t wait h)
+  waits-on p k w t s h = before-the-end (waiting p k w s) (goesOn p k w q) t h
 
   module _ (k w t : ℕ) (long : wait ≤ t) where
     sends-again : k < q .retries → spelt (base .tx) ≡ some f → Comes message k w t base (sends f (waiting message (suc k) (t - wait) base))
@@ -315,10 +323,6 @@ control0-opens s cells v f e h q = rw h (go (has TX-FLUSH v) (rw h at q))
     go true q = absurd (flushed (over (withCells cells s)) f refl q)
     go false q = start-opens s cells f e q
 
-both-true : (a b : Bool) → (a && b) ≡ true → (a ≡ true) × (b ≡ true)
-both-true true b e = (refl, e)
-both-true false b e = absurd (true≢false (sym e))
-
 abbrev Opens : State → Frame → ℕ → ℕ → Type 0
 Opens s f v a = writes a v s .frames ≡ f ∷ [] → Opened s (writes a v s .state) f
 
@@ -336,10 +340,10 @@ writes-open s a v f h = go (txStart a v) refl h
   where
     go : (b : Bool) → txStart a v ≡ b → b || portStart s a v ≡ true → Opens s f v a
     go true e p =
-        let both = both-true (eqb a control0) (has TX-START v) e in
+        let both = and-eq-true-iff (eqb a control0) (has TX-START v) .0 e in
         subst (Opens s f v) (sym (eqb-true a control0 (both .0))) (tx-opens s v f (both .1))
     go false e p =
-        let is = eqb-true a fifos (both-true (eqb a fifos) (not (inside (s .tx)) && eqb v START) p .0) in
+        let is = eqb-true a fifos (and-eq-true-iff (eqb a fifos) (not (inside (s .tx)) && eqb v START) .0 p .0) in
         subst (Opens s f v) (sym is) (port-opens s v f (subst (λ (x : ℕ). portStart s x v ≡ true) is p))
 
 abbrev StepOpens : State → Frame → Event → Type 0

@@ -15,6 +15,7 @@ use Rattle.line.specs.Kind.{sopKinds}
 use Rattle.line.specs.Frame.{Frame, Octets, Whole, message, alone, AllWhole}
 use Rattle.line.specs.Crc.{crcRight}
 use Rattle.line.specs.Refusal.{firstNo}
+use Rattle.line.proofs.Crcs.{octets-append, octets-drop}
 use Rattle.machine.specs.Registers.{
   storedBits,
   cell,
@@ -123,8 +124,6 @@ use Rattle.machine.proofs.Masks.{within-le, cells-at}
 use Rattle.machine.proofs.Refusing.{first-none-exactly}
 use Rattle.machine.proofs.Spelling.{spelt-whole}
 use Rattle.machine.proofs.Keeping.{
-  octets-append,
-  octets-drop,
   power-up-good,
   keeps-cells,
   keeps-queue,
@@ -166,11 +165,11 @@ by-test false x y p q = q refl
 
 -- ---- frames that the device builds
 
-control-whole : (type k sw id : ℕ) → k < sopKinds → Whole (control type k sw id)
+pub control-whole : (type k sw id : ℕ) → k < sopKinds → Whole (control type k sw id)
 unfolding twoOctets
 control-whole type k sw id h = message h (mod-lt _ (lit< tt), (mod-lt _ (lit< tt), tt)) (omega arith) (omega arith)
 
-reset-whole : Whole hardResetFrame
+pub reset-whole : Whole hardResetFrame
 reset-whole = alone (omega arith) (omega arith) refl
 
 -- ---- start

@@ -6,7 +6,7 @@ use mathlib.Core.List.{List, [], _∷_, _++_, append-nil}
 use mathlib.Core.Option.{Option, none, some}
 use Prim.Native.Nat.{ℕ, suc, _+_, _-_, _<_, _≤_}
 use native.Mathlib.Omega.{arith}
-use borrow.Author.Tests.{lt-ltb, le-ltb, ltb-false}
+use borrow.Author.Tests.{lt-ltb, ltb-true, ltb-false}
 use lib.Bits.{bitAnd}
 use lib.Dec.{ltb, eqb}
 use lib.ListN.{getD}
@@ -26,7 +26,7 @@ use Rattle.machine.specs.Theorems.{DataIsData, LatchedGoverns, TimeAdds,
 use Rattle.machine.proofs.Masks.{outside, cells-at}
 use Rattle.machine.proofs.Masking.{passes-with}
 use Rattle.machine.proofs.Messages.{stored-step}
-use Rattle.machine.proofs.Retrying.{pass-step}
+use Rattle.machine.proofs.Retrying.{pass-step, before-the-end, past-the-end}
 
 -- ---- data
 
@@ -108,14 +108,6 @@ module _ (m : ℕ) where
     unfolding expires
     expires-onward = onward-cond (ltb (q .sent) (q .retries)) _ _ _ _ (sends-onward (flight s q)) (fails-onward (q .phase))
 
-  before-the-end : (s : State) (q : Request) (w : ℕ) → ltb w wait ≡ true → elapses w q s ≡ silent (withRequest (some (goesOn (q .phase) (q .sent) w q)) s)
-  unfolding elapses
-  before-the-end s q w e = simp e
-
-  past-the-end : (s : State) (q : Request) (w : ℕ) → wait ≤ w → elapses w q s ≡ expires (w - wait) q s
-  unfolding elapses
-  past-the-end s q w h = simp (le-ltb w wait h)
-
   waiting : (s : State) (q : Request) (w : ℕ) → onward m (silent (withRequest (some (goesOn (q .phase) (q .sent) w q)) s)) ≡ elapses (w + m) q s
   unfolding onward passes
   waiting s q w =
@@ -125,7 +117,7 @@ module _ (m : ℕ) where
   elapses-onward s q w h = go (ltb w wait) refl
     where
       go : (b : Bool) → ltb w wait ≡ b → onward m (elapses w q s) ≡ elapses (w + m) q s
-      go true e = ap (onward m) (before-the-end s q w e) ∙ waiting s q w
+      go true e = ap (onward m) (before-the-end s q w (ltb-true w wait e)) ∙ waiting s q w
       go false e =
           let z = ltb-false w wait e in
           ap (onward m) (past-the-end s q w z) ∙ expires-onward s q (w - wait) (omega arith)

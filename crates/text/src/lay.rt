@@ -35,7 +35,7 @@ pub(crate) fn lay_text(text: &[u8], out: &mut [u8], at: usize) -> usize
     at + i
 }
 
-// A number of at most so many digits.
+// A number in at most so many digits, of a longer one the last so many.
 pub(crate) fn lay_decimal(n: usize, most: usize, out: &mut [u8], at: usize) -> usize
     requires { ⌜ at + most ≤ length (now out) ⌝ }
     ensures { λ r. ⌜ Puts (now (out .entry)) at (decimalOf most n) r (now (out .exit)) ⌝ }

@@ -49,7 +49,7 @@ pub fn put_text(text: &[u8], out: &mut [u8], at: usize) -> usize
     at
 }
 
-// A number in at most so many digits, of a longer one the last so many; for all of them there has to be room.
+// A number in at most so many digits, of a longer one the last so many; for so many there has to be room.
 pub fn put_decimal(n: usize, most: usize, out: &mut [u8], at: usize) -> usize
     ensures { λ r. ⌜ Prints (hasRoom most (now (out .entry)) at) (now (out .entry)) at (decimalOf most n) r (now (out .exit)) ⌝ }
 {

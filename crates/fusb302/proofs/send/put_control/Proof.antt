@@ -1,6 +1,6 @@
 -- The octets are the header, and they make a whole frame.
 use borrow.Author.Needs.{needs}
-use Rattle.fusb302.proofs.Sending.{control-whole}
+use Rattle.machine.proofs.Staying.{control-whole}
 use Rattle.fusb302.proofs.send.put_control.Statement.{statement}
 use Rattle.fusb302.proofs.send.put_control.Tie as tie
 

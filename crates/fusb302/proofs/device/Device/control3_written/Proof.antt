@@ -1,7 +1,7 @@
 -- A Hard Reset leaves, or nothing is done.
 use borrow.Author.Needs.{needs}
 use mathlib.Core.Path.{sym, _∙_}
-use Rattle.fusb302.proofs.Sending.{reset-whole}
+use Rattle.machine.proofs.Staying.{reset-whole}
 use Rattle.fusb302.proofs.Writing.{control3-sends, control3-rests}
 use Rattle.fusb302.proofs.device.Device.control3_written.Statement.{statement}
 use Rattle.fusb302.proofs.device.Device.control3_written.Tie as tie

@@ -1,6 +1,6 @@
 -- The request is over and the bits set; a Hard Reset is sent if that was latched.
 use borrow.Author.Needs.{needs}
-use Rattle.fusb302.proofs.Sending.{reset-whole}
+use Rattle.machine.proofs.Staying.{reset-whole}
 use Rattle.fusb302.proofs.Becoming.{over-noted}
 use Rattle.fusb302.proofs.Waiting.{soft-ends, soft-hard}
 use Rattle.fusb302.proofs.device.Device.soft_fails.Statement.{statement}
