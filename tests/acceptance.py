@@ -1,5 +1,5 @@
 #!/usr/bin/env python3
-"""The acceptance files: programs with the bench's standard input and output against answers worked out from 01 by hand.
+"""The acceptance files: programs with the bench's standard input and output against answers worked out from 01 and 02 by hand.
 
     tests/acceptance.py PROGRAM [PROGRAM..]
 

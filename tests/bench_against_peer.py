@@ -3,21 +3,24 @@
 
     tests/bench_against_peer.py BENCH PEER [SEED]
 
-Long texts in form, with 1,200,000 events in all, histories made for one rule each, and 3,000 short damaged texts. Then how the
-bench ends when its output is closed or full, and when its input is left open, comes in pieces or cannot be read; and whether each
-answer is there before the next line is given. Of the first text on which the two differ, the shortest beginning that shows it is
-kept under target/tests/.
+Long texts in form, with 1,200,000 events in all, histories made for one rule each, the examples, and 3,000 short damaged texts.
+Then how the bench ends when its output is closed or full, and when its input is left open, comes in pieces or cannot be read; and
+whether each answer is there before the next line is given. Of the first text on which the two differ, the shortest beginning that
+shows it is kept under target/tests/.
 """
 import os
+import re
 import select
 import signal
 import subprocess
 import sys
 import threading
 import time
+from collections import Counter
 from concurrent.futures import ProcessPoolExecutor
 
-from texts import damaged, directed_lines, extremes, in_form, joined
+from comparators import at_the_pins, due
+from texts import damaged, directed_lines, examples, extremes, in_form, joined
 
 FILES, EVENTS = 12, 100_000
 DAMAGED, AT_ONCE = 3_000, 100
@@ -26,16 +29,17 @@ SECONDS = 10
 NO_END = b'did not end'
 KEPT = os.path.join(os.path.dirname(os.path.dirname(os.path.abspath(__file__))), 'target', 'tests')
 
-# What the long texts have to bring about: every reply, and each bit that a read can show, both set and clear.
+# What the long texts have to bring about: every reply, each bit that a read can show, both set and clear, and at the comparators
+# what comparators.py says.
 READ_BITS = {
     '02': 0xFF, '03': 0xF7, '04': 0x7F, '05': 0xFF, '06': 0x2E, '07': 0x73, '08': 0xEF, '09': 0x3F, '0A': 0xFF, '0B': 0x0F,
-    '0D': 0x0F, '0E': 0xFF, '0F': 0x01, '10': 0x01, '3C': 0x33, '3D': 0x07, '3E': 0x3F, '3F': 0x01, '40': 0x18, '41': 0xFC,
-    '42': 0x18, '43': 0xFF,
+    '0D': 0x0F, '0E': 0xFF, '0F': 0x01, '10': 0x01, '3C': 0x33, '3D': 0x07, '3E': 0x3F, '3F': 0x01, '40': 0xBB, '41': 0xFC,
+    '42': 0xB9, '43': 0xFF,
 }
 READS = {'r ' + address: address for address in READ_BITS}
 BITS = [(address, 1 << n) for address, bits in READ_BITS.items() for n in range(8) if bits >> n & 1]
 DUE = {'ok', 'INT_N 0', 'INT_N 1', 'frame of 4', *('frame of %d' % n for n in range(17, 74, 2)), *('no%d' % n for n in range(1, 12)),
-       *('%s: %02X %s' % (*bit, way) for bit in BITS for way in ('set', 'clear'))}
+       *('%s: %02X %s' % (*bit, way) for bit in BITS for way in ('set', 'clear')), *due()}
 
 
 def answers(command, seconds=SECONDS, **stdin):
@@ -105,20 +109,23 @@ def thinned(programs, setup, events):
 
 
 def brought_about(setup, events, printed):
-    """Which of DUE the answers to a text in form show."""
+    """Which of DUE the answers to a text in form show, and how often."""
     lines = printed.decode('latin-1').split('\n')
-    values = {address: set() for address in READ_BITS}
+    values = {address: Counter() for address in READ_BITS}
     for event, line in zip(events, lines[len(setup):]):
         if event in READS and line[:1] == '=':
-            values[READS[event]].add(int(line[1:3], 16))
-    seen = {'%s: %02X %s' % (address, bit, 'set' if value & bit else 'clear') for address, bit in BITS for value in values[address]}
+            values[READS[event]][int(line[1:3], 16)] += 1
+    seen = Counter(at_the_pins(setup, events, lines))
+    for address, bit in BITS:
+        for value, times in values[address].items():
+            seen['%s: %02X %s' % (address, bit, 'set' if value & bit else 'clear')] += times
     for line in lines:
         reply, _, rest = line.partition(' ')
-        seen.add(reply)
-        seen.add('INT_N ' + rest[:1])
+        seen[reply] += 1
+        seen['INT_N ' + rest[:1]] += 1
         if len(rest) > 3:
-            seen.add('frame of %d' % rest.count(' '))
-    return seen & DUE
+            seen['frame of %d' % rest.count(' ')] += 1
+    return Counter({rule: seen[rule] for rule in DUE if rule in seen})
 
 
 def long_name(seed, number):
@@ -153,12 +160,27 @@ def damaged_name(seed, number):
     return 'damaged text %d of seed %d' % (number, seed)
 
 
+def bad_line(text, printed):
+    """The bad line of a text, if there is one, and whether it stands among the events."""
+    found = re.search(rb'^bad line (\d+)\n\Z', printed, re.M)
+    if not found:
+        return None, False
+    number, lines = int(found.group(1)), text.split(b'\n') + [b'']
+    # The lines before a bad line are in form.
+    return lines[number - 1], number > 1 and number >= int(lines[0]) + 3
+
+
 def damaged_texts(programs, seed, first):
-    """The numbers of damaged texts on which the two differ, and how many had a bad line."""
-    differing, bad = [], 0
+    """The numbers of damaged texts on which the two differ, and how many had a bad line, one of voltages, or one that is bad by a
+    voltage above 65,535 alone."""
+    differing, bad = [], Counter()
     for number in range(first, min(first + AT_ONCE, DAMAGED)):
-        bench, peer = both(programs, damaged(damaged_name(seed, number)))
-        bad += b'bad line' in peer
+        text = damaged(damaged_name(seed, number))
+        bench, peer = both(programs, text)
+        line, among_events = bad_line(text, peer)
+        bad['any'] += line is not None
+        bad['voltages'] += among_events and line.lstrip()[:1] in (b'v', b'V')
+        bad['above'] += among_events and re.fullmatch(rb'v( \d{1,7}){3}', line) is not None
         if bench != peer:
             differing.append(number)
             break
@@ -316,10 +338,10 @@ def main():
     programs = sys.argv[1:3]
     seed = int(sys.argv[3]) if len(sys.argv) > 3 else 20
     os.makedirs(KEPT, exist_ok=True)
-    wrong, seen, bad = [], set(), 0
+    wrong, seen, bad = [], Counter(), Counter()
     with ProcessPoolExecutor(WORKERS) as workers:
         for number, differing, some in in_order([workers.submit(long_text, programs, seed, n) for n in range(FILES)]):
-            seen |= some
+            seen += some
             if differing:
                 name = long_name(seed, number)
                 wrong.append(form_difference(programs, name, *in_form(name, EVENTS), last_end(number)))
@@ -330,20 +352,26 @@ def main():
     directed = directed_lines()
     name = next((name for name, events in directed.items() if differ(programs, joined([], events))), None)
     wrong += [form_difference(programs, name, [], directed[name])] if name else []
-    wrong += [raw_difference(programs, name, text) for name, text in extremes().items() if differ(programs, text)]
+    wrong += [raw_difference(programs, name, text) for name, text in (extremes() | examples()).items() if differ(programs, text)]
+    wrong += ['%s has a bad line' % name for name, text in examples().items() if b'bad line' in answers([programs[1]], input=text)]
     events = b'h\n' * 300_000
     endings = output_endings(programs[0], b'0\n9999999\n' + events, b'0\n300000\n' + events)
     wrong += ['the bench ' + one for one in (*endings, *input_endings(programs[0], seed), *conversation(programs[0], seed))]
-    if not wrong and seen != DUE:
-        wrong.append('the long texts never bring about: ' + ', '.join(sorted(DUE - seen)))
-    if not wrong and not 0 < bad < DAMAGED:
-        wrong.append('%d of %d damaged texts have a bad line' % (bad, DAMAGED))
+    if not wrong and seen.keys() != DUE:
+        wrong.append('the long texts never bring about: ' + ', '.join(sorted(DUE - seen.keys())))
+    counted = '{:,} damaged texts ({any:,} with a bad line, {voltages:,} with one of voltages, {above:,} with a voltage above 65,535)'
+    counted = counted.format(DAMAGED, **bad)
+    if not wrong and not 0 < bad['above'] < bad['voltages'] < bad['any'] < DAMAGED:
+        wrong.append(counted)
     for one in wrong:
         print('bench against peer: seed %d: %s' % (seed, one))
     if wrong:
         sys.exit(1)
-    print('bench against peer: {:,} events in {} texts, {} directed histories and {:,} damaged texts ({:,} with a bad line) agree, '
-          'seed {}, {:.0f} s'.format(FILES * EVENTS, FILES, len(directed), DAMAGED, bad, seed, time.monotonic() - started))
+    rarest, times = seen.most_common()[-1]
+    print('bench against peer: {:,} events in {} texts agree, and meet {} rules, the rarest {} times: {}'.format(
+        FILES * EVENTS, FILES, len(seen), times, rarest))
+    print('bench against peer: {} directed histories and {} agree, seed {}, {:.0f} s'.format(
+        len(directed), counted, seed, time.monotonic() - started))
 
 
 if __name__ == '__main__':

@@ -214,6 +214,9 @@ def directed(bench):
     yield 'packets too long and too short', lengths, ['no9 1 -'] * len(lengths)
     yield 'numbers too large', ['t 1001', 't 10000000', 't 4294967295', 'p 5 00', 'm 10000000', 'p 4294967295'], \
         ['no10 1 -'] * 3 + ['no11 1 -'] * 3
+    measured = ['w 06 04', 'w 0B 04', 'w 02 04']
+    yield 'voltages', [*measured, 'v 1230 0 4000', 'i', 'R 40 3', 'v 0 65535 65535', 'r 40', 'w 02 08', 'R 40 3', 'v 0 0 0', 'i'], \
+        ['ok 1 -'] * 3 + ['ok 0 -', '0', '=81 1 - taken 3 83 28 81', 'ok 0 -', '=80 0 -', 'ok 0 -', '=21 1 - taken 3 A3 28 21', 'ok 0 -', '0']
     yield 'two models', [
         'o 0', 'w 03 21', 'o 1', 'r 03', 'w 03 22', 'o 2', 'o 0', 'r 03', 'x', 'o 1', 'r 03', 'o 0', 'r 03', 'x', 'o 2', 'r 03'], \
         ['ok 1 -', '=20 1 -', 'ok 1 -', '=21 1 -', 'close: ok', '=22 1 -', '=20 1 -', 'close: ok', '=20 1 -', *['close: ok'] * 2]
@@ -396,7 +399,7 @@ with open(%r, 'w') as kept:
 def check_text(players):
     """The lines that a client writes, its CRCs among them, against zlib."""
     rng = random.Random(0)
-    calls, due = ['w 0A F0', 'r 3C', 't 0', 't 9999999', 'h', 'p 4', 'p 0 01 AB'], ['0', '9999999']
+    calls, due = ['w 0A F0', 'r 3C', 't 0', 't 9999999', 'h', 'p 4', 'p 0 01 AB', 'v 0 0 0', 'v 1230 65535 4000'], ['0', '9999999']
     due += calls
     for n in list(range(31)) * 3:
         octets = rng.choice([rng.randbytes(n), bytes(n), b'\xff' * n, b'\xc3\xa1' * (n // 2) + bytes(n % 2)])
@@ -476,8 +479,11 @@ def check_python(bench):
     """What only Python has: numbers that are no octets, a call broken off, a model that is closed twice."""
     with Fusb302(bench) as model:
         for call, *arguments in ((model.write, 256, 0), (model.write, 0, -1), (model.read, -1), (model.pass_time, -1),
-                                 (model.hear_packet, -1, b''), (model.hear_packet, 0, [256]), (model.i2c_read, 1, -1)):
+                                 (model.hear_packet, -1, b''), (model.hear_packet, 0, [256]), (model.i2c_read, 1, -1),
+                                 (model.set_pins, 65536, 0, 0), (model.set_pins, 0, 65536, 0), (model.set_pins, 0, 0, 65536),
+                                 (model.set_pins, -1, 0, 0), (model.set_pins, 0, -1, 0), (model.set_pins, 0, 0, -1)):
             yield from raises(ValueError, call, *arguments)
+        yield from raises(TypeError, model.set_pins, 0, 3.3, 0)
         for call in (model.i2c_write, model.hear_packet, model.hear_packet_with_crc):
             yield from raises(TypeError, call, 0, 5)
         if model.read(0x03).value != 0x20 or model._events != 1:

@@ -1,7 +1,9 @@
-"""Histories made for one rule of 01 each, by name: what random ones may miss. Events as in histories.py."""
-from histories import SETS, with_crc
+"""Histories made for one rule of 01 or 02 each, by name: what random ones may miss. Events as in histories.py."""
+from histories import (BC_LVL_STEPS, CODES, MEAS_CC1, MEAS_CC2, MEAS_VBUS, PWR_MEASURE, SETS, VBUSOK_AT, VOLTAGE_MOST, cc_reference,
+                       vbus_reference, with_crc)
 
 NAME = [0x4F, 0x10, 0x6C, 0xC3, 0xA1, 0x21]
+HIGH = [VOLTAGE_MOST] * 3
 
 
 def port(octets):
@@ -152,14 +154,109 @@ def masks():
 
 
 def not_built():
-    stored = {0x02: 0xFF, 0x04: 0x7F, 0x05: 0xFF, 0x08: 0xEF, 0x0B: 0x0F, 0x0D: 0x0F, 0x10: 0x01}
-    written = [('w', address, value) for address, value in stored.items()]
+    # All but what is measured: MEAS_CC1, MEAS_CC2, MEAS_VBUS, MDAC and PWR bit 2.
+    stored = {0x02: 0xF3, 0x05: 0xFF, 0x08: 0xEF, 0x0B: 0x0B, 0x0D: 0x0F, 0x10: 0x01}
+    written = [('v', *HIGH)] + [('w', address, value) for address, value in stored.items()]
     return {'stored bits of what is not built, and their status': written + [('t', 1000)] + [('r', a) for a in stored] + statuses()}
+
+
+def measuring(switches0, measure, power=PWR_MEASURE):
+    return [('w', 0x02, switches0), ('w', 0x04, measure), ('w', 0x0B, power)]
+
+
+def shown():
+    return [('r', 0x40), ('r', 0x42)]
+
+
+def stepped(pin, voltages, others=0):
+    """A pin, CC1 being 0, CC2 1 and VBUS 2, at each of these voltages."""
+    events = []
+    for voltage in voltages:
+        pins = [others] * 3
+        pins[pin] = voltage
+        events += [('v', *pins)] + shown()
+    return events
+
+
+def about(*voltages):
+    return [voltage + more for voltage in voltages for more in (-1, 0, 1)]
+
+
+# What is measured: 02 and MEAS_VBUS, by the pin's place in the event.
+MEASURED = [(MEAS_CC1, 0), (MEAS_CC2, 0), (0, MEAS_VBUS)]
+
+
+def thresholds():
+    named = {'VBUSOK at 4,000 with no bit set': measuring(0, 0, 0) + stepped(2, about(VBUSOK_AT) + [4500, 0])}
+    for pin, name in enumerate(('CC1', 'CC2')):
+        for others in (0, VOLTAGE_MOST):
+            events = measuring(MEASURED[pin][0], CODES[-1]) + stepped(pin, about(*BC_LVL_STEPS) + [0], others)
+            named['BC_LVL of %s, the others at %d' % (name, others)] = events
+    for pin, (name, reference) in enumerate((('CC1', cc_reference), ('CC2', cc_reference), ('VBUS', vbus_reference))):
+        switches0, meas_vbus = MEASURED[pin]
+        for code in (CODES[0], 23, CODES[-1]):
+            events = measuring(switches0, meas_vbus | code) + stepped(pin, [*about(reference(code)), 0, VOLTAGE_MOST])
+            named['COMP of %s with code %d' % (name, code)] = events
+    for name, reference, switches0, meas_vbus in (('CC1', cc_reference, MEAS_CC1, 0), ('VBUS', vbus_reference, 0, MEAS_VBUS)):
+        events = measuring(switches0, 0)
+        for code in CODES:
+            events.append(('w', 0x04, meas_vbus | code))
+            for voltage in (reference(code) - 1, reference(code)):
+                events += [('v', voltage, 0, voltage), ('r', 0x40)]
+        named['COMP of %s with every code' % name] = events
+    return named
+
+
+def switches():
+    """The settings in which something is measured, and those in which nothing is."""
+    named = {}
+    for pins in (HIGH, [700, 1300, 420]):
+        for power in (0x0B, 0x04):
+            events = [('v', *pins)]
+            for switches0 in (0x00, MEAS_CC1, MEAS_CC1 | MEAS_CC2, MEAS_CC2):
+                for measure in (0x00, MEAS_VBUS):
+                    events += measuring(switches0, measure, power) + shown()
+            named['each of MEAS_CC1, MEAS_CC2 and MEAS_VBUS with 0B = %02X and the pins at %d, %d, %d' % (power, *pins)] = events
+    return named
+
+
+def looked_at(events):
+    """40 and 42 read after each event."""
+    return [e for event in events for e in [event] + shown()]
+
+
+def changes():
+    on = [('w', 0x06, 0x04)] + measuring(MEAS_CC1, CODES[-1])
+    standing = measuring(MEAS_CC2, CODES[-1]) + [('v', 500, VOLTAGE_MOST, 5000)]
+    again = measuring(MEAS_CC2, 0x31) + shown() + measuring(MEAS_CC1, 0x31) + shown()
+    up, down = [('v', *HIGH)], [('v', 0, 0, 0)]
+    no_change = measuring(MEAS_CC2 | 0xC3, 0x3E, 0x0F) + measuring(MEAS_CC2, 0x00)
+    elsewhere = [('w', address, 0x00) for address in (0x03, 0x05, 0x06, 0x08, 0x09, 0x0D, 0x10)]
+    refused = [('w', *pair) for pair in ((0x00, 4), (0x11, 4), (0x40, 0), (0x42, 0), (0x43, 0), (0x06, 1), (0x09, 0x40))]
+    named = {
+        'a level to another, and back': on + stepped(0, [300, 300, 700, 2000, 700, 300, 0, 2000, 300, 2000, 0]),
+        'all change at once': on + looked_at(up + down),
+        'a change back before 42 is read': on + up + down + shown(),
+        'writes that change no reading': standing + shown() + looked_at(no_change),
+        'writes elsewhere': standing + shown() + looked_at(elsewhere),
+        'refused writes with voltages standing': standing + shown() + looked_at(refused),
+        'voltages while a request is open': started(0x01) + [('t', 999)] + up + [('t', 1)] + down + [('t', 1000)] + statuses(),
+        'voltages beside CRC_CHK and ALERT': standing + heard(0, [0x43, 0x0A]) + [('w', 0x43, 0x12)] * 48 + shown() + looked_at(down),
+    }
+    for value in (0x01, 0x02, 0x03):
+        reset = [('w', 0x0C, value)] + shown() + again
+        named['0C written %02X with voltages standing' % value] = standing + reset
+        named['0C written %02X with voltages standing, 42 read before' % value] = standing + shown() + reset
+    for mask in (0x00, 0x7F, 0xDF, 0xFE, 0xFF):
+        masked = [('w', 0x0A, mask)] + up + [('w', 0x06, 0x24), ('w', 0x06, 0x04)] + shown() + looked_at([('w', 0x0B, 0x00)])
+        named['comparators and INT_N with 0A = %02X' % mask] = on + masked
+    return named
 
 
 def directed():
     """Every history by its name."""
     named = {}
-    for part in (every_address, command_bits, refusals, almost_messages, requests, good_crcs, packets, masks, not_built):
+    for part in (every_address, command_bits, refusals, almost_messages, requests, good_crcs, packets, masks, not_built, thresholds,
+                 switches, changes):
         named.update(part())
     return named

@@ -1,6 +1,6 @@
 """Random histories of events for the device, seeded: messages of every octet value, almost-messages, retries to the end,
-resets, full FIFOs, masks, refused events. An event is a tuple: ('w', address, value), ('r', address), ('t', microseconds),
-('h',) or ('p', kind, octets)."""
+resets, full FIFOs, masks, voltages about the thresholds, refused events. An event is a tuple: ('w', address, value),
+('r', address), ('t', microseconds), ('h',), ('p', kind, octets) or ('v', cc1, cc2, vbus) in millivolts."""
 import zlib
 
 SETS = [
@@ -12,6 +12,19 @@ SETS = [
 ]
 TOKENS = [0x12, 0x13, 0x1B, 0x15, 0x16, 0x82, 0x84, 0x9E, 0xFF, 0x14, 0xFE]
 
+# The comparators (02, A1), in millivolts; an MDAC code has one reference for the CC pins and one for VBUS.
+BC_LVL_STEPS, VBUSOK_AT, VOLTAGE_MOST = (200, 660, 1230), 4000, 65535
+CODES = range(64)
+MEAS_CC1, MEAS_CC2, MEAS_VBUS, PWR_MEASURE = 0x04, 0x08, 0x40, 0x04
+
+
+def cc_reference(code):
+    return 42 * (code + 1)
+
+
+def vbus_reference(code):
+    return 420 * (code + 1)
+
 
 def with_crc(message):
     return list(message) + list(zlib.crc32(bytes(message)).to_bytes(4, 'little'))
@@ -22,6 +35,7 @@ class Histories:
         self.rng = rng
         self.kind = 0
         self.message_id = 0
+        self.code = 0x31
 
     def octet(self):
         return self.rng.choice([0xA1, 0xC3, 0xFE, self.rng.randrange(256), self.rng.randrange(256)])
@@ -72,8 +86,64 @@ class Histories:
             yield 'w', 0x07, 0x73
         yield 'p', kind, octets
 
+    def set_up(self):
+        """CC1, CC2 or VBUS is measured, and nothing else."""
+        rng = self.rng
+        self.code = rng.choice([CODES[0], CODES[-1], rng.choice(CODES), rng.choice(CODES)])
+        switches0, meas_vbus = rng.choice([(MEAS_CC1, 0), (MEAS_CC2, 0), (0, MEAS_VBUS)])
+        yield 'w', 0x0B, rng.choice([PWR_MEASURE, 0x07, 0x0F])
+        yield 'w', 0x02, switches0 | rng.choice([0x00, 0x03])
+        yield 'w', 0x04, meas_vbus | self.code
+
+    def measuring(self):
+        """A write of one of the registers that say what is measured."""
+        rng = self.rng
+        address = rng.choice([0x02, 0x04, 0x0B])
+        if address == 0x02:
+            measured = rng.choice([0, MEAS_CC1, MEAS_CC1, MEAS_CC2, MEAS_CC2, MEAS_CC1 | MEAS_CC2])
+            return 'w', address, measured | rng.choice([0x00, 0x03, rng.randrange(256) & 0xF3])
+        if address == 0x0B:
+            return 'w', address, rng.choice([PWR_MEASURE, PWR_MEASURE, 0x07, 0x0F, 0x00, 0x03, rng.randrange(256)])
+        self.code = rng.choice([CODES[0], CODES[-1], rng.choice(CODES), rng.choice(CODES)])
+        return 'w', address, self.code | rng.choice([0, 0, MEAS_VBUS, 0x80])
+
+    def voltage(self, thresholds):
+        """At a threshold, right below or right above it, or anywhere."""
+        rng = self.rng
+        anywhere = [0, VOLTAGE_MOST, rng.randrange(VOLTAGE_MOST + 1), rng.randrange(3000)]
+        return rng.choice(thresholds) + rng.choice([-1, 0, 1]) if rng.random() < 0.7 else rng.choice(anywhere)
+
+    def pins(self):
+        cc = [*BC_LVL_STEPS, cc_reference(self.code)]
+        return 'v', self.voltage(cc), self.voltage(cc), self.voltage([VBUSOK_AT, vbus_reference(self.code)])
+
+    def touched(self):
+        """An event that may change what the comparators say, or that must not."""
+        rng = self.rng
+        choice = rng.random()
+        if choice < 0.55:
+            return self.pins()
+        if choice < 0.85:
+            return self.measuring()
+        if choice < 0.93:
+            return 'w', 0x0C, rng.choice([0x01, 0x02, 0x03])
+        return rng.choice([('w', 0x43, 0x00), ('w', 0x40, 0xFF), ('w', 0x11, 0xFF), ('w', 0x06, 0x41), ('t', 1000), ('h',)])
+
+    def measured(self):
+        """A pin is measured while the pins and what is measured change."""
+        rng = self.rng
+        if rng.random() < 0.8:
+            yield from self.set_up()
+        for _ in range(rng.randrange(1, 6)):
+            yield self.touched()
+            for address in rng.choice([[0x40], [0x42], [0x40, 0x42], []]):
+                yield 'r', address
+
     def some(self):
         rng = self.rng
+        if rng.random() < 0.25:
+            yield from self.measured()
+            return
         choice = rng.random()
         if choice < 0.25:
             yield from self.send()
@@ -116,4 +186,6 @@ def as_line(event):
         return 't %d' % event[1]
     if event[0] == 'h':
         return 'h'
+    if event[0] == 'v':
+        return 'v %d %d %d' % event[1:]
     return ' '.join(['p', str(event[1])] + ['%02X' % octet for octet in event[2]])

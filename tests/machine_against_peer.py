@@ -28,7 +28,7 @@ use Prim.Native.Nat.{ℕ}
 use Rattle.line.specs.Frame.{joined}
 use Rattle.machine.specs.State.{State, powerUp}
 use Rattle.machine.specs.Status.{intLow}
-use Rattle.machine.specs.Events.{Event, write, read, pass, hardReset, packet, Reply, done, value, no}
+use Rattle.machine.specs.Events.{Event, write, read, pass, hardReset, packet, sense, Reply, done, value, no}
 use Rattle.machine.specs.Step.{step}
 use Rattle.machine.proofs.Computing.{computed}
 
@@ -59,6 +59,8 @@ def as_term(event):
         return 'pass 73 %d' % event[1]
     if event[0] == 'h':
         return 'hardReset 73'
+    if event[0] == 'v':
+        return 'sense 73 %d %d %d' % event[1:]
     return 'packet 73 %d (%s)' % (event[1], listed(map(str, event[2])))
 
 

@@ -2,7 +2,9 @@
 
 A text in form is kept as its setup writes and its events, two lists of lines, until `joined` puts the counts before them.
 """
+import os
 import random
+import re
 import zlib
 
 from directed import directed
@@ -100,12 +102,19 @@ class Term(Histories):
             lines += ['w %02X %02X' % (address, rng.randrange(256)), 'r %02X' % address]
         return lines
 
+    def pins_measured(self):
+        """What the comparators say, and their interrupts, before and after each of some events."""
+        lines = [as_line(event) for event in self.set_up()] * (self.rng.random() < 0.8) + ['r 40']
+        for _ in range(self.rng.choice([2, 4, 8])):
+            lines += ['r 42', as_line(self.touched()), 'r 42', 'r 40']
+        return lines
+
     def any_part(self):
         return [as_line(event) for event in self.some()]
 
     def lines(self, count):
         parts = [self.any_part] * 8 + [self.acknowledged] * 6 + [self.worn_out] * 4 + [self.heard] * 4
-        parts += [self.masks] * 2 + [self.registers, self.filled_rx, self.filled_tx]
+        parts += [self.pins_measured] * 3 + [self.masks] * 2 + [self.registers, self.filled_rx, self.filled_tx]
         lines = []
         while len(lines) < count:
             lines += self.rng.choice(parts)()
@@ -131,7 +140,7 @@ def directed_lines():
 
 # Damages: each takes the source of chances and a text, and gives the text back damaged.
 
-ODD = b' \n\r\0\t-+=.0179AFGafgwrthpWRTHPx\x1a\x7f\x80\xa0\xc3\xff'
+ODD = b' \n\r\0\t-+=.0179AFGafgwrthpvWRTHPVx\x1a\x7f\x80\xa0\xc3\xff'
 
 
 def put(text, at, octets, instead=0):
@@ -217,6 +226,22 @@ def line_stretched(rng, lines, at):
 
 
 @on_lines
+def voltages_wrong(rng, lines, at):
+    """A line of voltages, one that is there if any, with a number that is too large or too long, or otherwise out of form."""
+    at = rng.choice([n for n, line in enumerate(lines) if line[:1] == b'v'] or [at])
+    numbers = lines[at].split()[1:] if re.fullmatch(rb'v( \d+){3}', lines[at]) else [b'0', b'1230', b'5000']
+    which = rng.randrange(3)
+    if rng.random() < 0.6:
+        numbers[which] = rng.choice([b'65535', b'65536', b'65536', b'99999', b'131072', b'9999999', b'0065535', b'0065536', b'00065535',
+                                     b'65536000', b'', b'-1', b'1.5', b'FF'])
+    line = b' '.join([b'v', *numbers])
+    if rng.random() < 0.4:
+        line = rng.choice([line.upper(), line + b' ', line + b' 0', line.rpartition(b' ')[0], line.replace(b' ', b'', 1),
+                           line.replace(b' ', b'  ', 1), b' '.join([b'v', *numbers[:which], b'', *numbers[which:]])])
+    lines[at] = line
+
+
+@on_lines
 def count_wrong(rng, lines, at):
     counts = [n for n, line in enumerate(lines) if line.isdigit()] or [at]
     line = rng.choice(counts)
@@ -231,7 +256,7 @@ def cut(rng, text):
 
 DAMAGES = [
     octet_changed, octet_removed, octet_doubled, octet_added, digit_added, space_doubled, line_removed, line_doubled,
-    lines_swapped, line_lowered, line_stretched, count_wrong, cut, every_line_ends_in_cr_lf,
+    lines_swapped, line_lowered, line_stretched, voltages_wrong, voltages_wrong, count_wrong, cut, every_line_ends_in_cr_lf,
     at_a_line_end(b'', 1), at_a_line_end(b'\r'), at_a_line_end(b' '), at_a_line_end(b'\0'), at_a_line_end(b'\n'),
 ]
 
@@ -244,6 +269,17 @@ def damaged(seed):
     for _ in range(rng.choice([1, 1, 2, 3])):
         text = rng.choice(DAMAGES)(rng, text)
     return text
+
+
+def examples():
+    """The example texts, by name."""
+    folder = os.path.join(os.path.dirname(os.path.dirname(os.path.abspath(__file__))), 'examples')
+    named = {}
+    for file in sorted(os.listdir(folder)):
+        if file.endswith('.txt'):
+            with open(os.path.join(folder, file), 'rb') as text:
+                named['examples/' + file] = text.read()
+    return named
 
 
 def extremes():

@@ -416,6 +416,19 @@ fusb302_status fusb302_hear_hard_reset(fusb302 *model, fusb302_outcome *outcome)
     return event(&now, &asked, false);
 }
 
+fusb302_status fusb302_set_pins(fusb302 *model, uint16_t cc1_mv, uint16_t cc2_mv, uint16_t vbus_mv, fusb302_outcome *outcome)
+{
+    fusb302_outcome unread;
+    call now = begin(model, outcome, &unread);
+    line asked = {.length = 0};
+    put_text(&asked, "v");
+    put_decimal(&asked, cc1_mv);
+    put_decimal(&asked, cc2_mv);
+    put_decimal(&asked, vbus_mv);
+    put_text(&asked, "\n");
+    return event(&now, &asked, false);
+}
+
 /* The address of the octet after this one: the FIFO port stays (004, note 10). */
 static uint8_t next_address(uint8_t address)
 {

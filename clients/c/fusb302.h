@@ -102,6 +102,9 @@ fusb302_status fusb302_hear_packet_with_crc(fusb302 *model, uint32_t kind, const
 
 fusb302_status fusb302_hear_hard_reset(fusb302 *model, fusb302_outcome *outcome);
 
+/* The pins are at these voltages from here on, in millivolts. All are 0 at power-up, and SW_RES keeps them. Never refused. */
+fusb302_status fusb302_set_pins(fusb302 *model, uint16_t cc1_mv, uint16_t cc2_mv, uint16_t vbus_mv, fusb302_outcome *outcome);
+
 /*
  * What an I2C driver does: `n` octets to or from an address, one event each. The address goes up by one from octet to octet,
  * and stays when it is 43, the FIFO port. The first refusal ends the call. The outcome is that of the last octet that was

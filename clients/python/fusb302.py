@@ -15,7 +15,7 @@ From the project's folder: PYTHONPATH=clients/python python3 reset.py
 
 What the model answers is an Outcome, a refusal too. That it does not answer is an Error: NotStarted, Ended, OutOfForm, Silent,
 TooManyEvents or NotOpen. After an error the model stays in it: every later event raises it again at once, and closing is quiet.
-A number that is no octet, or below 0, is a ValueError, and nothing is asked of the model.
+A number that is no octet, no voltage of a pin, or below 0, is a ValueError, and nothing is asked of the model.
 Models are independent of each other. One model is for one thread at a time.
 """
 import operator
@@ -34,6 +34,7 @@ _PORT = 0x43
 _LINE = 256  # the longest line of the bench, its LF among it
 _DECIMAL_MOST = 9_999_999  # the largest decimal of the bench's text, and so the most events
 _PACKET_MOST = 34
+_VOLTAGE_MOST = 65_535
 _LONGEST = 1_000_000  # seconds that one wait can last
 _FRAME_SYMBOLS, _CALL_SYMBOLS = 73, 77  # a call over 06 and 09 can send a message and a Hard Reset
 # The bench always lends enough symbols, and so never says no12.
@@ -99,6 +100,13 @@ def _decimal(number: int) -> str:
     return ' %d' % min(number, _DECIMAL_MOST)
 
 
+def _voltage(pin: str, millivolts: int) -> str:
+    """A decimal that is a voltage. One that is too large would end the bench's text as a bad line."""
+    if not 0 <= operator.index(millivolts) <= _VOLTAGE_MOST:
+        raise ValueError('%s at %d mV is outside 0 to %d' % (pin, millivolts, _VOLTAGE_MOST))
+    return ' %d' % millivolts
+
+
 def _milliseconds(until: float) -> float:
     return min(max(0, until - time.monotonic()), _LONGEST) * 1000
 
@@ -148,6 +156,11 @@ class Fusb302:
 
     def hear_hard_reset(self) -> Outcome:
         return self._event('h', self._until())
+
+    def set_pins(self, cc1: int, cc2: int, vbus: int) -> Outcome:
+        """The pins are at these voltages from here on, in millivolts, 0 to 65,535; another is a ValueError. All are 0 at
+        power-up, and SW_RES keeps them. Never refused."""
+        return self._event('v' + _voltage('CC1', cc1) + _voltage('CC2', cc2) + _voltage('VBUS', vbus), self._until())
 
     # What an I2C driver does: octets to or from an address, one event each. The address goes up by one from octet to octet, and
     # stays when it is 43, the FIFO port. The first refusal ends the call. The outcome is that of the last octet that was asked

@@ -1,6 +1,8 @@
-//! The device: registers, FIFOs, the open request, time and packets (01 'Registers' to 'Numbers of no').
+//! The device: registers, FIFOs, the open request, time and packets (01 'Registers' to 'Numbers of no'), and the comparators
+//! on the pins (02, A1).
 
 use crate::line::{crc32, Control, Frame, Header, Kind, Roles, CRC_LENGTH};
+use crate::pins::{MdacCode, Millivolts, Pins};
 use std::mem;
 
 // Addresses.
@@ -71,6 +73,10 @@ const fn by_address() -> (Registers, Registers) {
     (reset_values, stored_bits)
 }
 
+// Switches0.
+const MEAS_CC2: u8 = 0x08;
+const MEAS_CC1: u8 = 0x04;
+
 // Switches1.
 const POWER_ROLE: u8 = 0x80;
 const SPEC_REV_SHIFT: u32 = 5;
@@ -78,6 +84,9 @@ const DATA_ROLE: u8 = 0x10;
 const AUTO_CRC: u8 = 0x04;
 const TXCC2: u8 = 0x02;
 const TXCC1: u8 = 0x01;
+
+// Measure.
+const MEAS_VBUS: u8 = 0x40;
 
 // Control0.
 const TX_FLUSH: u8 = 0x40;
@@ -98,6 +107,9 @@ const AUTO_HARDRESET: u8 = 0x10;
 const AUTO_SOFTRESET: u8 = 0x08;
 const N_RETRIES_SHIFT: u32 = 1;
 const AUTO_RETRY: u8 = 0x01;
+
+// Power: PWR[2], without which the measure block is off.
+const PWR_MEASURE: u8 = 0x04;
 
 // Reset.
 const PD_RESET: u8 = 0x02;
@@ -125,7 +137,9 @@ const I_HARDRST: u8 = 0x01;
 // Interruptb.
 const I_GCRCSENT: u8 = 0x01;
 
-// Status0.
+// Status0; BC_LVL is its two lowest bits.
+const VBUSOK: u8 = 0x80;
+const COMP: u8 = 0x20;
 const CRC_CHK: u8 = 0x10;
 const ALERT: u8 = 0x08;
 
@@ -138,8 +152,11 @@ const TX_EMPTY: u8 = 0x08;
 const TX_FULL: u8 = 0x04;
 
 // Interrupt.
+const I_VBUSOK: u8 = 0x80;
+const I_COMP_CHNG: u8 = 0x20;
 const I_CRC_CHK: u8 = 0x10;
 const I_ALERT: u8 = 0x08;
+const I_BC_LVL: u8 = 0x01;
 
 /// A refused event, by its number in 01; 12 is missing because a `Frame` has room for every frame.
 #[derive(Clone, Copy, Debug, PartialEq, Eq)]
@@ -349,8 +366,16 @@ impl Request {
     }
 }
 
+/// What the comparators say of the pins.
+struct Readings {
+    vbusok: bool,
+    comp: bool,
+    bc_lvl: u8,
+}
+
 pub struct Device {
     registers: Registers,
+    pins: Pins,
     status0a: u8,
     interrupta: u8,
     interruptb: u8,
@@ -374,6 +399,7 @@ impl Device {
     pub const fn power_up() -> Self {
         Device {
             registers: RESET_VALUES,
+            pins: Pins::AT_POWER_UP,
             status0a: 0,
             interrupta: 0,
             interruptb: 0,
@@ -417,14 +443,22 @@ impl Device {
             CONTROL1 => self.control1_commands(value),
             CONTROL3 => self.control3_commands(value, line)?,
             RESET => self.reset_commands(value),
+            SWITCHES0 | MEASURE | POWER => {
+                self.recording_changes(|device| device.store(address, value));
+                return Ok(());
+            }
             SWITCHES0..=CONTROL4 => {}
             FIFOS => return self.write_fifo(value, line),
             DEVICE_ID | STATUS0A..=INTERRUPT => return Err(Refusal::ReadOnly),
             _ => return Err(Refusal::NoSuchAddress),
         }
-        let address = usize::from(address);
-        self.registers[address] = value & STORED_BITS[address];
+        self.store(address, value);
         Ok(())
+    }
+
+    /// Puts the pins at these voltages; nothing leaves by it.
+    pub fn sense(&mut self, pins: Pins) {
+        self.recording_changes(|device| device.pins = pins);
     }
 
     /// Lets time pass; without an open request that changes nothing.
@@ -499,6 +533,11 @@ impl Device {
         Ok(())
     }
 
+    fn store(&mut self, address: u8, value: u8) {
+        let address = usize::from(address);
+        self.registers[address] = value & STORED_BITS[address];
+    }
+
     const fn register(&self, address: u8) -> u8 {
         self.registers[address as usize]
     }
@@ -516,8 +555,13 @@ impl Device {
         }
     }
 
-    const fn status0(&self) -> u8 {
-        bit_if(self.crc_chk, CRC_CHK) | bit_if(self.tx.is_full() || self.rx.is_full(), ALERT)
+    fn status0(&self) -> u8 {
+        let readings = self.readings();
+        bit_if(readings.vbusok, VBUSOK)
+            | bit_if(readings.comp, COMP)
+            | bit_if(self.crc_chk, CRC_CHK)
+            | bit_if(self.tx.is_full() || self.rx.is_full(), ALERT)
+            | readings.bc_lvl
     }
 
     const fn status1(&self) -> u8 {
@@ -530,6 +574,50 @@ impl Device {
             | bit_if(self.rx.is_full(), RX_FULL)
             | bit_if(self.tx.is_empty(), TX_EMPTY)
             | bit_if(self.tx.is_full(), TX_FULL)
+    }
+
+    fn readings(&self) -> Readings {
+        let measures = self.has(POWER, PWR_MEASURE);
+        Readings {
+            vbusok: self.pins.vbus >= Millivolts::VBUS_OK,
+            comp: measures && self.is_above_mdac(),
+            bc_lvl: if measures { self.bc_lvl() } else { 0 },
+        }
+    }
+
+    /// Whether what is switched to the MDAC's comparator is above its reference; two pins at once or none are not measured.
+    fn is_above_mdac(&self) -> bool {
+        let code = MdacCode::of(self.register(MEASURE));
+        match (self.measured_cc(), self.has(MEASURE, MEAS_VBUS)) {
+            ([true, false], false) => self.pins.cc1 >= code.cc_reference(),
+            ([false, true], false) => self.pins.cc2 >= code.cc_reference(),
+            ([false, false], true) => self.pins.vbus >= code.vbus_reference(),
+            _ => false,
+        }
+    }
+
+    /// BC_LVL with the measure block on; it does not ask what the MDAC measures.
+    fn bc_lvl(&self) -> u8 {
+        match self.measured_cc() {
+            [true, false] => self.pins.cc1.bc_lvl(),
+            [false, true] => self.pins.cc2.bc_lvl(),
+            [true, true] | [false, false] => 0,
+        }
+    }
+
+    /// MEAS_CC1 and MEAS_CC2.
+    const fn measured_cc(&self) -> [bool; 2] {
+        [self.has(SWITCHES0, MEAS_CC1), self.has(SWITCHES0, MEAS_CC2)]
+    }
+
+    /// Does what may change a reading, and sets the interrupt of each that changed.
+    fn recording_changes(&mut self, act: impl FnOnce(&mut Self)) {
+        let before = self.readings();
+        act(self);
+        let after = self.readings();
+        self.interrupt |= bit_if(before.vbusok != after.vbusok, I_VBUSOK)
+            | bit_if(before.comp != after.comp, I_COMP_CHNG)
+            | bit_if(before.bc_lvl != after.bc_lvl, I_BC_LVL);
     }
 
     const fn driver_on(&self) -> bool {
@@ -587,7 +675,11 @@ impl Device {
 
     fn reset_commands(&mut self, value: u8) {
         if value & SW_RES != 0 {
-            *self = Self::power_up();
+            // The pins are not the device's to reset, and what they read from here on is no change (02, A1).
+            *self = Device {
+                pins: self.pins,
+                ..Self::power_up()
+            };
         } else if value & PD_RESET != 0 {
             self.drop_request();
             self.rx.clear();
@@ -814,6 +906,20 @@ mod tests {
 
         fn sent(&self) -> usize {
             self.line.symbols().len()
+        }
+
+        /// Puts CC1, CC2 and VBUS at these voltages.
+        fn sense(&mut self, [cc1, cc2, vbus]: [u16; 3]) {
+            self.device.sense(Pins {
+                cc1: Millivolts(cc1),
+                cc2: Millivolts(cc2),
+                vbus: Millivolts(vbus),
+            });
+        }
+
+        /// Status0, and Interrupt, which is clear after it.
+        fn status_and_interrupt(&mut self) -> (u8, u8) {
+            (self.read(STATUS0), self.read(INTERRUPT))
         }
     }
 
@@ -1404,5 +1510,320 @@ mod tests {
         assert!(bench.device.int_n());
         assert_eq!(bench.write(MASKB, 0x00), Ok(()));
         assert!(!bench.device.int_n());
+    }
+
+    const HIGH: u16 = u16::MAX;
+
+    /// Voltages about a threshold, and whether they count as above it.
+    fn about(threshold: u16) -> [(u16, bool); 3] {
+        [
+            (threshold - 1, false),
+            (threshold, true),
+            (threshold + 1, true),
+        ]
+    }
+
+    #[test]
+    fn vbusok_at_4000_needs_no_bit() {
+        let every_bit = [(SWITCHES0, 0xFF), (MEASURE, 0x7F), (POWER, 0x0F)];
+        let no_bit = every_bit.map(|(address, _)| (address, 0x00));
+        for setup in [every_bit, no_bit] {
+            for (voltage, above) in about(4_000) {
+                let mut bench = Bench::new(&setup);
+                bench.sense([0, 0, voltage]);
+                let seen = (bit_if(above, VBUSOK), bit_if(above, I_VBUSOK));
+                assert_eq!(bench.status_and_interrupt(), seen, "{voltage}");
+            }
+        }
+        // What 004 prints besides is no threshold.
+        let mut bench = Bench::new(&[]);
+        bench.sense([0, 0, 4_000]);
+        bench.read(INTERRUPT);
+        for voltage in [4_499, 4_500, 4_501, HIGH] {
+            bench.sense([0, 0, voltage]);
+            assert_eq!(bench.status_and_interrupt(), (VBUSOK, 0));
+        }
+    }
+
+    #[test]
+    fn bc_lvl_is_of_the_one_measured_cc_pin() {
+        for other in [0, HIGH] {
+            for (level, step) in [(1, 200), (2, 660), (3, 1_230)] {
+                for (voltage, above) in about(step) {
+                    let level = if above { level } else { level - 1 };
+                    // The reference is above all of these voltages.
+                    let mut bench = Bench::new(&[(MEASURE, 0x3F), (POWER, 0x04)]);
+                    for (switches0, pins) in [
+                        (MEAS_CC1, [voltage, other, 0]),
+                        (MEAS_CC2, [other, voltage, 0]),
+                    ] {
+                        assert_eq!(bench.write(SWITCHES0, switches0), Ok(()));
+                        bench.sense(pins);
+                        assert_eq!(bench.read(STATUS0), level, "{pins:?}");
+                    }
+                }
+            }
+        }
+    }
+
+    #[test]
+    fn comp_of_every_code_on_each_pin() {
+        for code in 0..=63 {
+            for (switches0, measure, pin, step) in [
+                (MEAS_CC1, code, 0, 42),
+                (MEAS_CC2, code, 1, 42),
+                (0x00, MEAS_VBUS | code, 2, 420),
+            ] {
+                for other in [0, HIGH] {
+                    for (voltage, above) in about(step * (u16::from(code) + 1)) {
+                        let setup = [(SWITCHES0, switches0), (MEASURE, measure), (POWER, 0x04)];
+                        let mut bench = Bench::new(&setup);
+                        let mut pins = [other; 3];
+                        pins[pin] = voltage;
+                        bench.sense(pins);
+                        let (status, interrupt) = bench.status_and_interrupt();
+                        assert_eq!(status & COMP, bit_if(above, COMP), "{setup:?} {pins:?}");
+                        assert_eq!(interrupt & I_COMP_CHNG, bit_if(above, I_COMP_CHNG));
+                    }
+                }
+            }
+        }
+    }
+
+    #[test]
+    fn readings_of_all_16_switch_settings() {
+        // With every pin high, and with one that is high among two that are not.
+        for (pwr_measure, meas_cc1, meas_cc2, meas_vbus, seen) in [
+            (0, 0, 0, 0, [0x00, 0x00, 0x00, 0x00]),
+            (0, 0, 0, 1, [0x00, 0x00, 0x00, 0x00]),
+            (0, 0, 1, 0, [0x00, 0x00, 0x00, 0x00]),
+            (0, 0, 1, 1, [0x00, 0x00, 0x00, 0x00]),
+            (0, 1, 0, 0, [0x00, 0x00, 0x00, 0x00]),
+            (0, 1, 0, 1, [0x00, 0x00, 0x00, 0x00]),
+            (0, 1, 1, 0, [0x00, 0x00, 0x00, 0x00]),
+            (0, 1, 1, 1, [0x00, 0x00, 0x00, 0x00]),
+            (1, 0, 0, 0, [0x00, 0x00, 0x00, 0x00]),
+            (1, 0, 0, 1, [0x20, 0x00, 0x00, 0x20]),
+            (1, 0, 1, 0, [0x23, 0x00, 0x23, 0x00]),
+            (1, 0, 1, 1, [0x03, 0x00, 0x03, 0x00]),
+            (1, 1, 0, 0, [0x23, 0x23, 0x00, 0x00]),
+            (1, 1, 0, 1, [0x03, 0x03, 0x00, 0x00]),
+            (1, 1, 1, 0, [0x00, 0x00, 0x00, 0x00]),
+            (1, 1, 1, 1, [0x00, 0x00, 0x00, 0x00]),
+        ] {
+            let switches0 = bit_if(meas_cc1 == 1, MEAS_CC1) | bit_if(meas_cc2 == 1, MEAS_CC2);
+            let measure = bit_if(meas_vbus == 1, MEAS_VBUS) | 0x01;
+            let power = bit_if(pwr_measure == 1, PWR_MEASURE);
+            let pins = [[HIGH; 3], [HIGH, 0, 0], [0, HIGH, 0], [0, 0, HIGH]];
+            // The other bits of the three registers have no part in it.
+            for (more_switches0, more_power) in [(0x00, 0x00), (0xF3, 0x0B)] {
+                for (pins, seen) in pins.into_iter().zip(seen) {
+                    let mut bench = Bench::new(&[
+                        (SWITCHES0, switches0 | more_switches0),
+                        (MEASURE, measure),
+                        (POWER, power | more_power),
+                    ]);
+                    assert_eq!(bench.status_and_interrupt(), (0, 0));
+                    bench.sense(pins);
+                    let vbusok = pins[2] == HIGH;
+                    let interrupt = bit_if(vbusok, I_VBUSOK)
+                        | bit_if(seen & COMP != 0, I_COMP_CHNG)
+                        | bit_if(seen & 0x03 != 0, I_BC_LVL);
+                    let status = bit_if(vbusok, VBUSOK) | seen;
+                    assert_eq!(bench.status_and_interrupt(), (status, interrupt));
+                }
+            }
+        }
+    }
+
+    #[test]
+    fn each_change_at_the_pins_sets_its_interrupt() {
+        // The reference of code 23 is 1008, between two steps of BC_LVL.
+        let mut bench = Bench::new(&[(SWITCHES0, MEAS_CC1), (MEASURE, 23), (POWER, 0x04)]);
+        for (pins, seen) in [
+            ([0, 0, 0], (0x00, 0x00)),
+            ([199, 1_000, 3_999], (0x00, 0x00)),
+            ([200, 1_000, 3_999], (0x01, I_BC_LVL)),
+            ([200, 1_000, 3_999], (0x01, 0x00)),
+            ([659, HIGH, 0], (0x01, 0x00)),
+            ([660, 0, 0], (0x02, I_BC_LVL)),
+            ([1_007, 0, 0], (0x02, 0x00)),
+            ([1_008, 0, 0], (0x22, I_COMP_CHNG)),
+            ([1_230, 0, 0], (0x23, I_BC_LVL)),
+            ([HIGH, 0, 0], (0x23, 0x00)),
+            ([HIGH, 0, 4_000], (0xA3, I_VBUSOK)),
+            ([1_229, 0, HIGH], (0xA2, I_BC_LVL)),
+            ([1_007, 0, HIGH], (0x82, I_COMP_CHNG)),
+            ([659, 0, 3_999], (0x01, I_VBUSOK | I_BC_LVL)),
+            ([199, 0, 0], (0x00, I_BC_LVL)),
+            ([HIGH; 3], (0xA3, I_VBUSOK | I_COMP_CHNG | I_BC_LVL)),
+            ([0; 3], (0x00, I_VBUSOK | I_COMP_CHNG | I_BC_LVL)),
+        ] {
+            bench.sense(pins);
+            assert_eq!(bench.status_and_interrupt(), seen, "{pins:?}");
+        }
+        // A change back does not take the interrupt back.
+        bench.sense([0, 0, 4_000]);
+        bench.sense([0, 0, 0]);
+        assert_eq!(bench.status_and_interrupt(), (0, I_VBUSOK));
+    }
+
+    #[test]
+    fn writes_that_change_a_reading_set_its_interrupt() {
+        let mut bench = Bench::new(&[(SWITCHES0, 0x03), (MEASURE, 23), (POWER, 0x01)]);
+        bench.sense([700, 1_300, 9_660]);
+        assert_eq!(bench.status_and_interrupt(), (VBUSOK, I_VBUSOK));
+        for (address, value, seen) in [
+            // What is stored and shows nothing: the measure block is off, or nothing is switched to it.
+            (SWITCHES0, 0x07, (0x80, 0x00)),
+            (SWITCHES0, 0x03, (0x80, 0x00)),
+            (MEASURE, 0x00, (0x80, 0x00)),
+            (MEASURE, 23, (0x80, 0x00)),
+            (POWER, 0x05, (0x80, 0x00)),
+            // CC1 is 700: level 2, and below 1008.
+            (SWITCHES0, 0x07, (0x82, I_BC_LVL)),
+            (SWITCHES0, 0xC7, (0x82, 0x00)),
+            // And it is below 714 and above 672.
+            (MEASURE, 16, (0x82, 0x00)),
+            (MEASURE, 15, (0xA2, I_COMP_CHNG)),
+            (MEASURE, 0, (0xA2, 0x00)),
+            (MEASURE, 63, (0x82, I_COMP_CHNG)),
+            (MEASURE, 23, (0x82, 0x00)),
+            // CC2 is 1300: level 3, and above.
+            (SWITCHES0, 0x08, (0xA3, I_BC_LVL | I_COMP_CHNG)),
+            (POWER, 0x04, (0xA3, 0x00)),
+            (POWER, 0x0B, (0x80, I_BC_LVL | I_COMP_CHNG)),
+            (POWER, 0x0F, (0xA3, I_BC_LVL | I_COMP_CHNG)),
+            // MEAS_VBUS takes the comparator from CC2 and leaves BC_LVL.
+            (MEASURE, 0x40 | 23, (0x83, I_COMP_CHNG)),
+            (SWITCHES0, 0x0C, (0x80, I_BC_LVL)),
+            (SWITCHES0, 0x04, (0x82, I_BC_LVL)),
+            // VBUS is 9660, the reference of code 22.
+            (MEASURE, 0x40 | 22, (0x82, 0x00)),
+            (SWITCHES0, 0x00, (0xA0, I_BC_LVL | I_COMP_CHNG)),
+            (MEASURE, 0x40 | 23, (0x80, I_COMP_CHNG)),
+            (MEASURE, 0xC0 | 22, (0xA0, I_COMP_CHNG)),
+            (MEASURE, 22, (0x80, I_COMP_CHNG)),
+        ] {
+            assert_eq!((bench.write(address, value), bench.sent()), (Ok(()), 0));
+            let written = format!("{address:02X} {value:02X}");
+            assert_eq!(bench.status_and_interrupt(), seen, "{written}");
+        }
+    }
+
+    /// Every reading shows, CC2 being measured, and no interrupt is set.
+    fn standing() -> Bench {
+        let mut bench = Bench::new(&[(SWITCHES0, 0x0B), (MEASURE, 0x3F), (POWER, 0x07)]);
+        bench.sense([0, 2_688, 4_000]);
+        let all = (0xA3, I_VBUSOK | I_COMP_CHNG | I_BC_LVL);
+        assert_eq!(bench.status_and_interrupt(), all);
+        bench
+    }
+
+    #[test]
+    fn writes_elsewhere_and_refused_ones_change_no_reading() {
+        let mut bench = standing();
+        for address in SWITCHES0..=FIFOS {
+            if ![SWITCHES0, MEASURE, POWER, RESET].contains(&address) {
+                for value in [0x00, 0x04, 0x08] {
+                    let _ = bench.write(address, value);
+                    assert_eq!(bench.status_and_interrupt(), (0xA3, 0), "{address:02X}");
+                }
+            }
+        }
+        for (address, value, refusal) in [
+            (0x11, 0x00, Refusal::NoSuchAddress),
+            (0x00, 0x00, Refusal::NoSuchAddress),
+            (STATUS0, 0x00, Refusal::ReadOnly),
+            (INTERRUPT, 0xFF, Refusal::ReadOnly),
+            (FIFOS, 0x00, Refusal::NoToken),
+            (CONTROL0, 0x01, Refusal::NotAMessage),
+            (CONTROL3, 0x40, Refusal::DriverOff),
+        ] {
+            assert_eq!(bench.write(address, value), Err(refusal));
+            assert_eq!(bench.status_and_interrupt(), (0xA3, 0));
+        }
+        assert_eq!(bench.pass(1_001), Err(Refusal::TimeTooLong));
+        assert_eq!(bench.pass(1_000), Ok(()));
+        bench.device.hear_hard_reset();
+        assert_eq!(bench.status_and_interrupt(), (0xA3, 0));
+    }
+
+    #[test]
+    fn sw_res_keeps_the_voltages_and_sets_no_interrupt() {
+        for value in [0x01, 0x03, 0xFF] {
+            let mut bench = standing();
+            bench.sense([500, 2_688, 3_999]);
+            bench.sense([500, 2_688, 4_000]);
+            assert_eq!(bench.write(RESET, value), Ok(()));
+            assert!(bench.device.int_n());
+            // Nothing is measured any more, but VBUSOK needs no bit.
+            assert_eq!(bench.status_and_interrupt(), (VBUSOK, 0));
+            assert_eq!(bench.read(POWER), 0x01);
+            // The voltages stand: they show once they are measured again.
+            assert_eq!(bench.write(POWER, 0x04), Ok(()));
+            assert_eq!(bench.status_and_interrupt(), (VBUSOK, 0));
+            assert_eq!(bench.write(SWITCHES0, MEAS_CC2), Ok(()));
+            let cc2 = (VBUSOK | COMP | 3, I_COMP_CHNG | I_BC_LVL);
+            assert_eq!(bench.status_and_interrupt(), cc2);
+            assert_eq!(bench.write(SWITCHES0, MEAS_CC1), Ok(()));
+            let cc1 = (VBUSOK | 1, I_COMP_CHNG | I_BC_LVL);
+            assert_eq!(bench.status_and_interrupt(), cc1);
+            bench.sense([500, 2_688, 4_000]);
+            assert_eq!(bench.status_and_interrupt(), (VBUSOK | 1, 0));
+        }
+    }
+
+    #[test]
+    fn pd_reset_leaves_the_pins_and_their_interrupts() {
+        let mut bench = standing();
+        assert_eq!(bench.write(RESET, PD_RESET), Ok(()));
+        assert_eq!(bench.status_and_interrupt(), (0xA3, 0));
+        bench.sense([0; 3]);
+        assert_eq!(bench.write(RESET, PD_RESET), Ok(()));
+        let all = (0x00, I_VBUSOK | I_COMP_CHNG | I_BC_LVL);
+        assert_eq!(bench.status_and_interrupt(), all);
+    }
+
+    #[test]
+    fn readings_stand_beside_crc_chk_and_alert() {
+        let mut bench = standing();
+        bench.hear(0, &[0x42, 0x00]);
+        bench.fill(&[0x12; 48]);
+        assert_eq!(bench.status_and_interrupt(), (0xBB, I_CRC_CHK | I_ALERT));
+        bench.sense([0; 3]);
+        let all = (0x18, I_VBUSOK | I_COMP_CHNG | I_BC_LVL);
+        assert_eq!(bench.status_and_interrupt(), all);
+    }
+
+    #[test]
+    fn pins_leave_an_open_request_alone() {
+        let mut bench = Bench::started(0x07);
+        assert_eq!(bench.pass(999), Ok(()));
+        bench.sense([HIGH; 3]);
+        assert_eq!(bench.write(FIFOS, 0x12), Err(Refusal::RequestOpen));
+        assert_eq!((bench.pass(1), bench.sent()), (Ok(()), 25));
+        assert_eq!(bench.read(INTERRUPTA), 0);
+        assert_eq!(bench.read(STATUS1), RX_EMPTY);
+    }
+
+    #[test]
+    fn comparators_and_int_n() {
+        for bit in [I_VBUSOK, I_COMP_CHNG, I_BC_LVL] {
+            // Masked, it is recorded all the same.
+            let mut bench = Bench::new(&[(CONTROL0, 0x04), (MASK, 0xFF)]);
+            assert_eq!(bench.write(SWITCHES0, MEAS_CC1), Ok(()));
+            assert_eq!(bench.write(POWER, 0x04), Ok(()));
+            bench.sense([HIGH; 3]);
+            assert!(bench.device.int_n());
+            assert_eq!(bench.write(MASK, !bit), Ok(()));
+            assert!(!bench.device.int_n());
+            assert_eq!(bench.read(INTERRUPT), I_VBUSOK | I_COMP_CHNG | I_BC_LVL);
+            assert!(bench.device.int_n());
+            bench.sense([0; 3]);
+            assert!(!bench.device.int_n());
+            assert_eq!(bench.write(CONTROL0, 0x24), Ok(()));
+            assert!(bench.device.int_n());
+        }
     }
 }

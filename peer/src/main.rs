@@ -1,10 +1,12 @@
 //! A model of the FUSB302B port controller that plays a script from standard input: `peer` answers each event, `peer sent`
 //! lists the frames that left. And `peer frames` lists the frames of a record of symbols.
-//! "01" in the comments is the paper of exact rules, quoted by section.
+//! "01" in the comments is the paper of exact rules, quoted by section; "02" is the later one, quoted by paragraph; "004" is the
+//! data sheet.
 
 mod device;
 mod frames;
 mod line;
+mod pins;
 mod script;
 mod text;
 

@@ -1,7 +1,8 @@
-//! The bench's text: lines in, events, lines out (01 'On the bench table', last part).
+//! The bench's text: lines in, events, lines out (01 'On the bench table', last part; 02, A1).
 
 use crate::device::{Device, Refusal};
 use crate::line::{crc32, Frame};
+use crate::pins::{Millivolts, Pins};
 use crate::text::{hex, octet_value, put_frame, put_octets};
 use std::io::{self, Read, Write};
 
@@ -23,6 +24,7 @@ enum Event<'a> {
     Time { microseconds: u32 },
     HardReset,
     Packet { kind: u32, packet: &'a [u8] },
+    Voltages { pins: Pins },
 }
 
 enum Reply {
@@ -112,6 +114,10 @@ impl Bench {
             }
             Event::Packet { kind, packet } => {
                 self.device.hear_packet(kind, packet, &mut self.line).into()
+            }
+            Event::Voltages { pins } => {
+                self.device.sense(pins);
+                Reply::Done
             }
         };
         answers.outcome(reply, self.device.int_n(), &self.line)
@@ -213,6 +219,12 @@ impl Text<'_> {
         (digits > 0).then_some(value)
     }
 
+    /// A space and a voltage; what is too large for one is out of form.
+    fn voltage(&mut self) -> Option<Millivolts> {
+        self.space()?;
+        u16::try_from(self.decimal()?).ok().map(Millivolts)
+    }
+
     fn write(&mut self) -> Option<Event<'static>> {
         let address = self.octet()?;
         self.space()?;
@@ -247,6 +259,14 @@ impl Text<'_> {
                 }
                 let packet = &octets[..count];
                 Some(Event::Packet { kind, packet })
+            }
+            b'v' => {
+                let pins = Pins {
+                    cc1: self.voltage()?,
+                    cc2: self.voltage()?,
+                    vbus: self.voltage()?,
+                };
+                Some(Event::Voltages { pins })
             }
             _ => None,
         }
@@ -478,6 +498,59 @@ mod tests {
     }
 
     #[test]
+    fn voltages() {
+        assert_eq!(
+            played(&[
+                "w 06 04",
+                "w 0B 04",
+                "w 02 04",
+                "v 1230 0 4000",
+                "r 40",
+                "r 42",
+                "v 0000660 0000000 0003999",
+                "r 40",
+                "r 42",
+                "v 65535 65535 65535",
+                "v 0065535 0065535 0065535",
+                "r 40",
+            ]),
+            [
+                "ok 1 -", "ok 1 -", "ok 1 -", "ok 0 -", "=83 0 -", "=81 1 -", "ok 0 -", "=02 0 -",
+                "=81 1 -", "ok 0 -", "ok 0 -", "=A3 0 -"
+            ]
+        );
+        // Each voltage is its own pin's.
+        for (event, switches0, status) in [
+            ("v 200 660 0", "w 02 04", "=01 1 -"),
+            ("v 200 660 0", "w 02 08", "=02 1 -"),
+            ("v 0 0 4000", "w 02 04", "=80 1 -"),
+        ] {
+            let answers = played(&["w 0B 04", switches0, event, "r 40"]);
+            assert_eq!(answers[3], status, "{event}");
+        }
+    }
+
+    #[test]
+    fn voltages_above_65535_are_out_of_form() {
+        for (line, taken) in [
+            ("v 65535 0 0", true),
+            ("v 0 65535 0", true),
+            ("v 0 0 65535", true),
+            ("v 65536 0 0", false),
+            ("v 0 65536 0", false),
+            ("v 0 0 65536", false),
+            ("v 0065536 0 0", false),
+            ("v 99999 0 0", false),
+            ("v 0 131072 0", false),
+            ("v 0 0 9999999", false),
+        ] {
+            let answer = if taken { "ok 1 -\n" } else { "bad line 3\n" };
+            assert_eq!(answers_to(format!("0\n1\n{line}\n")), answer, "{line}");
+            assert_eq!(answers_to(format!("0\n1\n{line}")), answer, "{line}");
+        }
+    }
+
+    #[test]
     fn setup_writes_are_answered_like_events() {
         assert_eq!(
             answers_to("4\n03 21\n09 46\n3C 00\n00 00\n0\n"),
@@ -588,6 +661,33 @@ mod tests {
             "p A",
             "p 0 00\r",
             "p 0\0",
+            "v",
+            "v ",
+            "v 1",
+            "v 1 ",
+            "v 1 2",
+            "v 1 2 ",
+            "v 1 2 3 ",
+            "v 1 2 3 4",
+            "v 1 2 3\r",
+            "v 1 2 3\0",
+            "v  1 2 3",
+            "v 1  2 3",
+            "v 1 2  3",
+            "v1 2 3",
+            "v\t1 2 3",
+            "v 1,2,3",
+            "V 1 2 3",
+            " v 1 2 3",
+            "v -1 2 3",
+            "v 1 +2 3",
+            "v 1 2 A",
+            "v 1 2 3A",
+            "v 1.0 2 3",
+            "v 00000001 2 3",
+            "v 1 00000002 3",
+            "v 1 2 00000003",
+            "v 12345678 2 3",
             "\0",
         ] {
             let input = format!("0\n2\nh\n{line}\n");

@@ -120,6 +120,13 @@ static fusb302_status play_packet(char letter, const char *text, fusb302_outcome
     return fusb302_hear_packet_with_crc(models[chosen], kind, octets, n, outcome);
 }
 
+static fusb302_status play_voltages(const char *text, fusb302_outcome *outcome)
+{
+    unsigned long mv[3] = {0, 0, 0};
+    numbers(text, 10, mv, 3);
+    return fusb302_set_pins(models[chosen], (uint16_t)mv[0], (uint16_t)mv[1], (uint16_t)mv[2], outcome);
+}
+
 static void play_event(char letter, const char *text)
 {
     unsigned long hex[2] = {0, 0};
@@ -134,6 +141,8 @@ static void play_event(char letter, const char *text)
         status = fusb302_pass_time(models[chosen], (uint32_t)strtoul(text, NULL, 10), &outcome);
     else if (letter == 'h')
         status = fusb302_hear_hard_reset(models[chosen], &outcome);
+    else if (letter == 'v')
+        status = play_voltages(text, &outcome);
     else
         status = play_packet(letter, text, &outcome);
     print_outcome(status, &outcome);

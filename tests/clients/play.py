@@ -70,6 +70,8 @@ class Player:
             return model.pass_time(int(words[0]))
         if letter == 'h':
             return model.hear_hard_reset()
+        if letter == 'v':
+            return model.set_pins(*map(int, words))
         hear = model.hear_packet if letter == 'm' else model.hear_packet_with_crc
         return hear(int(words[0]), bytes.fromhex(''.join(words[1:])))
 

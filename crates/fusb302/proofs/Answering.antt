@@ -63,7 +63,7 @@ module _ (d : Device) (asks : Asks d) (before : List ℕ) (a : ℕ) where
       pub read-of : (v : ℕ) (i : Ints) → intsOf i ≡ clearedAt a (intsOf (d .ints))
           → v ≡ cond (eqb a deviceId) 0x91 (cond (isStored a) (getD (d .cells) (a - 2) 0) (getD (shown (view d)) (a - status0a) 0))
           → Serves (read (length before) a) d before
-          (record { device = record { cells = d .cells; tx = d .tx; rx = d .rx; status = d .status; ints = i; request = d .request }; reply = Value v; count = 0 }) before
+          (record { device = record { cells = d .cells; tx = d .tx; rx = d .rx; status = d .status; ints = i; request = d .request; pins = d .pins }; reply = Value v; count = 0 }) before
       unfolding afterRead readValue cell
       read-of v i p q =
           let g = asks .arranged in
@@ -131,6 +131,7 @@ module _ (tx : Queue) (rx : Fifo) (x : Status) (no-tx : queued tx ≡ []) (no-rx
               sent = 0;
               waited = 0;
             };
+        pins = record { cc1 = record { 0 = 0 }; cc2 = record { 0 = 0 }; vbus = record { 0 = 0 } };
       }
 
   pub powered : Arranged fresh → PoweredUp fresh
@@ -156,7 +157,7 @@ module _ (d : Device) (asks : Asks d) where
 
   pub port-read : (d .rx .len ≡ 0 → ⊥) → (v : ℕ) (rx : Fifo) → v ≡ getD (held (d .rx)) 0 0 → Sound rx → held rx ≡ drop 1 (held (d .rx))
       → PortRead d (record {
-        device = record { cells = d .cells; tx = d .tx; rx = rx; status = d .status; ints = d .ints; request = d .request };
+        device = record { cells = d .cells; tx = d .tx; rx = rx; status = d .status; ints = d .ints; request = d .request; pins = d .pins };
         reply = Value v;
         count = 0;
       })
@@ -208,7 +209,7 @@ module _ (d : Device) (asks : Asks d) (before : List ℕ) (room : frameRoom ≤ 
   pub read-shown : (0x3C ≤ a) × (a ≤ 0x42) → (v : ℕ) (i : Ints) → v ≡ getD (shown (view d)) (a - status0a) 0
       → intsOf i ≡ clearedAt a (intsOf (d .ints))
       → Serves (read (length before) a) d before
-      (record { device = record { cells = d .cells; tx = d .tx; rx = d .rx; status = d .status; ints = i; request = d .request }; reply = Value v; count = 0 }) before
+      (record { device = record { cells = d .cells; tx = d .tx; rx = d .rx; status = d .status; ints = i; request = d .request; pins = d .pins }; reply = Value v; count = 0 }) before
   read-shown h v i p q =
       let w = at-shown a (h .0) (h .1) in
       read-of d asks before a room (w .1) (w .0) small v i q (rw (w .3, w .2) p)

@@ -64,6 +64,7 @@ pub is-over : (d : Device) → Arranged d → (tx : Queue) → Kept tx × (queue
             sent = d .request .sent;
             waited = d .request .waited;
           };
+      pins = d .pins;
     })
 is-over d h tx empty = record { state = rw (empty .1) refl; arranged = record { cells = h .cells; tx = empty .0; rx = h .rx } }
 

@@ -159,6 +159,7 @@ module _ (d : Device) (arranged : Arranged d) (k : ℕ) (sop : k < sopKinds) (m 
         status = record { status0a = d .status .status0a; «crc_chk» = d .status .«crc_chk»; kind = k };
         ints = d .ints;
         request = d .request;
+        pins = d .pins;
       }
 
   abbrev octets : List ℕ
@@ -257,6 +258,7 @@ module _ (d : Device) (k : ℕ) (m : List ℕ) (before : List ℕ) where
               status = record { status0a = d .status .status0a; «crc_chk» = false; kind = d .status .kind };
               ints = d .ints;
               request = d .request;
+              pins = d .pins;
             };
         reply = Done;
         count = 0;

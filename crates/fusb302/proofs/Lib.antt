@@ -3,6 +3,7 @@ pub mod Octets
 pub mod Queueing
 pub mod Storing
 pub mod Serving
+pub mod Sensing
 pub mod Showing
 pub mod Answering
 pub mod Sending

@@ -10,12 +10,15 @@ use lib.Dec.{ltb, eqb}
 use lib.ListN.{length}
 use lib.Seq.{length-take-le}
 use Rattle.line.specs.Kind.{sopKinds}
-use Rattle.machine.specs.Status.{txRoom, rxRoom, flag, isLast, lastIs, status0Of, status1Of}
+use Rattle.machine.specs.Pins.{readings}
+use Rattle.machine.specs.Status.{txRoom, rxRoom, VBUSOK, COMP, CRC-CHK, ALERT, RXSOP2, RXSOP1, RX-EMPTY, RX-FULL, TX-EMPTY, TX-FULL, flag, isLast, lastIs, status0Of, status1Of}
 use Rattle.fusb302.specs.declared.queue.Queue.{Queue}
 use Rattle.fusb302.specs.declared.fifo.Fifo.{Fifo}
 use Rattle.fusb302.specs.declared.device.Device.{Device}
 use Rattle.fusb302.specs.Queued.{queued, Kept, sopKind}
 use Rattle.fusb302.specs.Held.{held, Sound}
+use Rattle.fusb302.specs.declared.pins.Readings.{Readings}
+use Rattle.fusb302.specs.Sensed.{shownAs}
 use Rattle.fusb302.specs.View.{view, Arranged}
 
 -- ---- how many octets are held
@@ -38,16 +41,17 @@ last-not j k h = go (ltb k sopKinds)
 -- ---- 40 and 41
 
 module _ (d : Device) (arranged : Arranged d) where
-  pub status0-is : (x y : ℕ) (full : Bool) → x ≡ flag 0x10 (d .status .«crc_chk»)
-      → full ≡ (eqb (d .rx .len) rxRoom || eqb (d .tx .len) txRoom) → y ≡ flag 0x08 full → x + y ≡ status0Of (view d)
+  pub status0-is : (a b x y : ℕ) (shown : Readings) (full : Bool) → shownAs shown ≡ readings (view d)
+      → a ≡ flag VBUSOK (shown .«vbus_ok») → b ≡ flag COMP (shown .comp) → x ≡ flag CRC-CHK (d .status .«crc_chk»)
+      → full ≡ (eqb (d .rx .len) rxRoom || eqb (d .tx .len) txRoom) → y ≡ flag ALERT full
+      → a + b + x + y + shown .«bc_lvl» ≡ status0Of (view d)
   unfolding status0Of
-  status0-is x y full p q r =
-      ap₂ (λ (a b : ℕ). a + b) p
-      (r ∙ ap (flag 0x08) (q ∙ sym (ap₂ (λ (a b : ℕ). eqb a rxRoom || eqb b txRoom) (held-length (d .rx) (arranged .rx)) (queued-length (d .tx) (arranged .tx)))))
+  status0-is a b x y shown full e pa pb px f py =
+      rw (← e, held-length (d .rx) (arranged .rx), queued-length (d .tx) (arranged .tx), ← f) (omega arith)
 
-  pub status1-is : (k a b c e : ℕ) → k ≡ flag 0x80 (lastIs (view d) 2) + flag 0x40 (lastIs (view d) 1)
-      → a ≡ flag 0x20 (eqb (d .rx .len) 0) → b ≡ flag 0x10 (eqb (d .rx .len) rxRoom)
-      → c ≡ flag 0x08 (eqb (d .tx .len) 0) → e ≡ flag 0x04 (eqb (d .tx .len) txRoom)
+  pub status1-is : (k a b c e : ℕ) → k ≡ flag RXSOP2 (lastIs (view d) 2) + flag RXSOP1 (lastIs (view d) 1)
+      → a ≡ flag RX-EMPTY (eqb (d .rx .len) 0) → b ≡ flag RX-FULL (eqb (d .rx .len) rxRoom)
+      → c ≡ flag TX-EMPTY (eqb (d .tx .len) 0) → e ≡ flag TX-FULL (eqb (d .tx .len) txRoom)
       → k + a + b + c + e ≡ status1Of (view d)
   unfolding status1Of
   status1-is k a b c e pk pa pb pc pe =

@@ -30,8 +30,10 @@ use Rattle.machine.specs.Registers.{
   AUTO-HARDRESET,
 }
 use Rattle.machine.specs.State as machine
-use Rattle.machine.specs.State.{State, cleared, withTx, withRx, withStatus, withRequest, hides, raisesA, raises}
-use Rattle.machine.specs.Status.{txRoom, I-ALERT, I-HARDSENT}
+use Rattle.machine.specs.State.{State, cleared, withCells, withPins, withTx, withRx, withStatus, withRequest, hides, raisesA, raises}
+use Rattle.machine.specs.Pins as machine-pins
+use Rattle.machine.specs.Pins.{readings}
+use Rattle.machine.specs.Status.{txRoom, I-ALERT, I-HARDSENT, changes, reports}
 use Rattle.machine.specs.Queue.{START, spelt}
 use Rattle.machine.specs.Requests.{Effect, silent, hardResetFrame, retriesOf, latched, failBits, start, over, sendHardReset}
 use Rattle.machine.specs.Events.{write}
@@ -46,10 +48,13 @@ use Rattle.machine.specs.Step.{
   portWritten,
   commands,
   writes,
+  swReset,
+  written,
   accepted,
   replyTo,
 }
 use Rattle.machine.proofs.Checking.{write-checks}
+use Rattle.machine.proofs.Comparing.{port-written, control0-written, control1-written, control3-written, reset-written}
 use Rattle.fusb302.specs.declared.queue.Queue.{Queue}
 use Rattle.fusb302.specs.declared.fifo.Fifo.{Fifo}
 use Rattle.fusb302.specs.declared.device.Status.{Status}
@@ -59,6 +64,8 @@ use Rattle.fusb302.specs.declared.device.Reply.the-variants.{No}
 use Rattle.fusb302.specs.declared.device.Outcome.{Outcome}
 use Rattle.fusb302.specs.Queued.{queued, Kept}
 use Rattle.fusb302.specs.Held.{held, Sound}
+use Rattle.fusb302.specs.declared.pins.Readings.{Readings}
+use Rattle.fusb302.specs.Sensed.{pinsOf, shownAs}
 use Rattle.fusb302.specs.View.{requestOf, statusOf, view, Arranged, Asks, PoweredUp}
 use Rattle.fusb302.specs.Serves.{ifAny, replied, Becomes, Sends, Does, DoesQuietly, Serves, Refuses}
 use Rattle.fusb302.proofs.Serving.{serves-no, serves-yes}
@@ -119,7 +126,7 @@ module _ (d : Device) (arranged : Arranged d) (v : ℕ) where
   -- an octet more in the queue
   module _ (q : Queue) (more : Kept q × (queued q ≡ queued (d .tx) ++ (v ∷ []))) where
     abbrev longer : Device
-    longer = record { cells = d .cells; tx = q; rx = d .rx; status = d .status; ints = d .ints; request = d .request }
+    longer = record { cells = d .cells; tx = q; rx = d .rx; status = d .status; ints = d .ints; request = d .request; pins = d .pins }
 
     is-longer : Becomes (withTx (queued (d .tx) ++ (v ∷ [])) (view d)) longer
     is-longer = record { state = rw (more .1) refl; arranged = record { cells = arranged .cells; tx = more .0; rx = arranged .rx } }
@@ -158,7 +165,7 @@ module _ (d : Device) (v : ℕ) (before : List ℕ) where
 module _ (d : Device) (arranged : Arranged d) (v : ℕ) where
   pub control1-flushes : has RX-FLUSH v ≡ true → (f : Fifo) → Sound f → held f ≡ []
       → DoesQuietly (control1Written v (view d))
-      (done (record { cells = d .cells; tx = d .tx; rx = f; status = d .status; ints = d .ints; request = d .request }) 0)
+      (done (record { cells = d .cells; tx = d .tx; rx = f; status = d .status; ints = d .ints; request = d .request; pins = d .pins }) 0)
   unfolding control1Written
   control1-flushes h f sound e =
       rw h
@@ -186,7 +193,7 @@ module _ (d : Device) (v : ℕ) (before : List ℕ) where
 -- ---- Reset
 
 pub pd-resets : (d a : Device) → Becomes (over (view d)) a → (f : Fifo) → Sound f × (held f ≡ []) → (x : Status) → statusOf x ≡ cleared
-    → Becomes (pdReset (view d)) (record { cells = a .cells; tx = a .tx; rx = f; status = x; ints = a .ints; request = a .request })
+    → Becomes (pdReset (view d)) (record { cells = a .cells; tx = a .tx; rx = f; status = x; ints = a .ints; request = a .request; pins = a .pins })
 unfolding pdReset
 pd-resets d a h f empty x e =
     record {
@@ -196,10 +203,21 @@ pd-resets d a h f empty x e =
       arranged = record { cells = h .arranged .cells; tx = h .arranged .tx; rx = empty .0 };
     }
 
+-- a device as after power-up, with the voltages of another
+pub restores : (d a : Device) → PoweredUp a
+    → Becomes (restored (view d))
+    (record { cells = a .cells; tx = a .tx; rx = a .rx; status = a .status; ints = a .ints; request = a .request; pins = d .pins })
+unfolding restored
+restores d a p =
+    record {
+      state = ap (withPins (pinsOf (d .pins))) (p .new);
+      arranged = let g = p .asks .arranged in record { cells = g .cells; tx = g .tx; rx = g .rx };
+    }
+
 module _ (d : Device) (v : ℕ) where
-  pub reset-restores : has SW-RES v ≡ true → (t : Device) → PoweredUp t → DoesQuietly (resetWritten v (view d)) (done t 0)
-  unfolding resetWritten restored
-  reset-restores h t p = rw h (hushed _ t (record { state = p .new; arranged = p .asks .arranged }))
+  pub reset-restores : has SW-RES v ≡ true → (t : Device) → Becomes (restored (view d)) t → DoesQuietly (resetWritten v (view d)) (done t 0)
+  unfolding resetWritten
+  reset-restores h t x = rw h (hushed _ t x)
 
   module _ (h : has SW-RES v ≡ false) where
     pub reset-clears : has PD-RESET v ≡ true → (t : Device) → Becomes (pdReset (view d)) t → DoesQuietly (resetWritten v (view d)) (done t 0)
@@ -213,44 +231,66 @@ module _ (d : Device) (v : ℕ) where
 -- ---- a register is stored, and then commands
 
 abbrev storing : Device → ℕ → ℕ → Device
-storing d i x = record { cells = set (d .cells) i x; tx = d .tx; rx = d .rx; status = d .status; ints = d .ints; request = d .request }
+storing d i x = record { cells = set (d .cells) i x; tx = d .tx; rx = d .rx; status = d .status; ints = d .ints; request = d .request; pins = d .pins }
 
 pub stored-arranged : (d : Device) → Arranged d → (i x : ℕ) → Arranged (storing d i x)
 stored-arranged d arranged i x = record { cells = simp length-set (arranged .cells); tx = arranged .tx; rx = arranged .rx }
 
-module _ (d : Device) (a v : ℕ) (before : List ℕ) (r : Outcome) (after : List ℕ) where
-  pub written-port : a ≡ fifos → Does (portWritten v (view d)) before r after → Does (writes a v (view d)) before r after
-  unfolding writes
-  written-port e x = rw e x
+-- the bits that a register stores, by the code's table
+stored-is : (d : Device) (a v m : ℕ) → m ≡ getD storedBits (a - 2) 0
+    → withCells (stored a v (d .cells)) (view d) ≡ view (storing d (a - 2) (bitAnd v m))
+unfolding stored
+stored-is d a v m e = rw e refl
 
-  pub written-by : (m : ℕ) → m ≡ getD storedBits (a - 2) 0 → (a ≡ fifos → ⊥) → (x : Effect)
-      → commands a v (view (storing d (a - 2) (bitAnd v m))) ≡ x → Does x before r after → Does (writes a v (view d)) before r after
-  unfolding writes stored
-  written-by m masked h x e y = rw (ne-eqb a fifos h, ← masked, e) y
+-- an effect of a write, on the device with its register stored
+module _ (d : Device) (a v : ℕ) (before : List ℕ) (r : Outcome) (after : List ℕ) where
+  pub written-port : a ≡ fifos → Does (portWritten v (view d)) before r after → Does (written a v (view d)) before r after
+  written-port e x = rw (e, port-written v (view d)) x
+
+  module _ (m : ℕ) (masked : m ≡ getD storedBits (a - 2) 0) where
+    abbrev then : Device
+    then = storing d (a - 2) (bitAnd v m)
+
+    pub written-by : (f : State → Effect) → written a v (view d) ≡ f (withCells (stored a v (d .cells)) (view d))
+        → Does (f (view then)) before r after → Does (written a v (view d)) before r after
+    written-by f e x = rw (e, stored-is d a v m masked) x
 
 module _ (a v : ℕ) (s : State) where
-  pub is-control0 : a ≡ control0 → commands a v s ≡ control0Written v s
-  unfolding commands
-  is-control0 e = rw e refl
+  pub is-control0 : a ≡ control0 → written a v s ≡ control0Written v (withCells (stored a v (s .cells)) s)
+  is-control0 e = rw e (control0-written v s)
 
-  pub is-control1 : a ≡ control1 → commands a v s ≡ control1Written v s
-  unfolding commands
-  is-control1 e = rw e refl
+  pub is-control1 : a ≡ control1 → written a v s ≡ control1Written v (withCells (stored a v (s .cells)) s)
+  is-control1 e = rw e (control1-written v s)
 
-  pub is-control3 : a ≡ control3 → commands a v s ≡ control3Written v s
-  unfolding commands
-  is-control3 e = rw e refl
+  pub is-control3 : a ≡ control3 → written a v s ≡ control3Written v (withCells (stored a v (s .cells)) s)
+  is-control3 e = rw e (control3-written v s)
 
-  pub is-reset : a ≡ reset → commands a v s ≡ resetWritten v s
-  unfolding commands
-  is-reset e = rw e refl
+  pub is-reset : a ≡ reset → written a v s ≡ resetWritten v (withCells (stored a v (s .cells)) s)
+  is-reset e = rw e (reset-written v s)
 
-  pub is-plain : (a ≡ control0 → ⊥) → (a ≡ control1 → ⊥) → (a ≡ control3 → ⊥) → (a ≡ reset → ⊥) → commands a v s ≡ silent s
-  unfolding commands
-  is-plain p q r t = rw (ne-eqb _ _ p, ne-eqb _ _ q, ne-eqb _ _ r, ne-eqb _ _ t) refl
+  -- a register with no command, which the comparators may read
+  pub is-plain : (a ≡ fifos → ⊥) → (a ≡ control0 → ⊥) → (a ≡ control1 → ⊥) → (a ≡ control3 → ⊥) → (a ≡ reset → ⊥)
+      → written a v s ≡ silent (reports s (withCells (stored a v (s .cells)) s))
+  unfolding written writes commands swReset
+  is-plain h p q r t = rw (ne-eqb _ _ h, ne-eqb _ _ p, ne-eqb _ _ q, ne-eqb _ _ r, ne-eqb _ _ t) refl
 
-pub rests : (t : Device) → Arranged t → (before : List ℕ) → Does (silent (view t)) before (done t 0) before
-rests t arranged before = silently (view t) t (itself t arranged) before
+-- what it changes of what is shown is reported
+module _ (d : Device) (a v : ℕ) (m : ℕ) (masked : m ≡ getD storedBits (a - 2) 0) where
+  abbrev plain : Device
+  plain = storing d (a - 2) (bitAnd v m)
+
+  pub written-plain : (a ≡ fifos → ⊥) → (a ≡ control0 → ⊥) → (a ≡ control1 → ⊥) → (a ≡ control3 → ⊥) → (a ≡ reset → ⊥)
+      → (was : Readings) → shownAs was ≡ readings (view d) → (t : Device)
+      → Becomes (raises (changes (shownAs was) (readings (view plain))) (view plain)) t → (before : List ℕ)
+      → Does (written a v (view d)) before (done t 0) before
+  written-plain h p q r s was e t x before =
+      written-by d a v before (done t 0) before m masked (λ (u : State). silent (reports (view d) u)) (is-plain a v (view d) h p q r s)
+      (silently _ t
+      (record {
+        state = x .state ∙ ap (λ (y : machine-pins.Readings). raises (changes y (readings (view plain))) (view plain)) e;
+        arranged = x .arranged;
+      })
+      before)
 
 -- ---- the whole
 
@@ -267,7 +307,7 @@ module _ (d : Device) (asks : Asks d) (before : List ℕ) (a v : ℕ) where
     write-refused (suc n) h x = serves-no (write (length before) a v) d before asks (suc n) (x .is (length before) room)
 
     pub write-taken : Refuses (view d) a v 0 → a < 256 → v < 256 → (r : Outcome) (after : List ℕ)
-        → Does (writes a v (view d)) before r after → Serves (write (length before) a v) d before r after
+        → Does (written a v (view d)) before r after → Serves (write (length before) a v) d before r after
     unfolding accepted replyTo
     write-taken x p q r after y =
         serves-yes (write (length before) a v) d before asks (x .is (length before) room) (p, q) r after (y .arranged)

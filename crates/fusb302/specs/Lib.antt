@@ -2,6 +2,7 @@
 pub mod Places
 pub mod Queued
 pub mod Held
+pub mod Sensed
 pub mod View
 pub mod Serves
 pub mod Theorems

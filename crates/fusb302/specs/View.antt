@@ -14,6 +14,7 @@ use Rattle.fusb302.specs.declared.device.Request.{Request}
 use Rattle.fusb302.specs.declared.device.Device.{Device}
 use Rattle.fusb302.specs.Queued.{queued, Kept, sopKind}
 use Rattle.fusb302.specs.Held.{held, Sound}
+use Rattle.fusb302.specs.Sensed.{pinsOf}
 
 abbrev pub phaseOf : Bool → Phase
 phaseOf true = softReset
@@ -50,6 +51,7 @@ view d =
       status = statusOf (d .status);
       ints = intsOf (d .ints);
       request = requestOf (d .request);
+      pins = pinsOf (d .pins);
     }
 
 -- sizes, and what is kept beside the queue's octets

@@ -3,13 +3,24 @@ ghost use mathlib.Core.Path.{_≡_};
 ghost use Prim.Native.Nat.{_-_, _≤_};
 ghost use lib.ListN.{getD};
 ghost use Rattle.machine.specs.Registers.{storedBits, has};
+ghost use Rattle.machine.specs.Status.{flag};
 ghost use Rattle.machine.specs.Requests.{driverOn, retriesOf};
 ghost use Rattle.fusb302.specs.Places.{Placed};
+
+// Switches0
+pub(crate) const MEAS_CC2: u8 = 0x08;
+
+pub(crate) const MEAS_CC1: u8 = 0x04;
 
 // Switches1
 pub(crate) const AUTO_CRC: u8 = 0x04;
 
 pub(crate) const TXCC: u8 = 0x03;
+
+// Measure
+pub(crate) const MEAS_VBUS: u8 = 0x40;
+
+pub(crate) const MDAC: u8 = 0x3F;
 
 // Control0
 pub(crate) const TX_FLUSH: u8 = 0x40;
@@ -40,6 +51,9 @@ pub(crate) const AUTO_SOFTRESET: u8 = 0x08;
 
 pub(crate) const AUTO_RETRY: u8 = 0x01;
 
+// Power
+pub(crate) const PWR2: u8 = 0x04;
+
 // Reset
 pub(crate) const PD_RESET: u8 = 0x02;
 
@@ -53,6 +67,13 @@ pub(crate) const RETRYFAIL: u8 = 0x10;
 pub(crate) const SOFTRST: u8 = 0x02;
 
 pub(crate) const HARDRST: u8 = 0x01;
+
+// Status1a
+pub(crate) const RXSOP2DB: u8 = 0x04;
+
+pub(crate) const RXSOP1DB: u8 = 0x02;
+
+pub(crate) const RXSOP: u8 = 0x01;
 
 // Interrupta
 pub(crate) const I_SOFTFAIL: u8 = 0x20;
@@ -70,13 +91,45 @@ pub(crate) const I_HARDRST: u8 = 0x01;
 // Interruptb
 pub(crate) const I_GCRCSENT: u8 = 0x01;
 
+// Status0
+pub(crate) const VBUSOK: u8 = 0x80;
+
+pub(crate) const COMP: u8 = 0x20;
+
+pub(crate) const CRC_CHK: u8 = 0x10;
+
+pub(crate) const ALERT: u8 = 0x08;
+
+// Status1
+pub(crate) const RXSOP2: u8 = 0x80;
+
+pub(crate) const RXSOP1: u8 = 0x40;
+
+pub(crate) const RX_EMPTY: u8 = 0x20;
+
+pub(crate) const RX_FULL: u8 = 0x10;
+
+pub(crate) const TX_EMPTY: u8 = 0x08;
+
+pub(crate) const TX_FULL: u8 = 0x04;
+
 // Interrupt
+pub(crate) const I_VBUSOK: u8 = 0x80;
+
+pub(crate) const I_COMP_CHNG: u8 = 0x20;
+
 pub(crate) const I_CRC_CHK: u8 = 0x10;
 
 pub(crate) const I_ALERT: u8 = 0x08;
 
+pub(crate) const I_BC_LVL: u8 = 0x01;
+
 // Registers by their place among the cells: address less 2.
+pub(crate) const SWITCHES0: usize = 0;
+
 pub(crate) const SWITCHES1: usize = 1;
+
+pub(crate) const MEASURE: usize = 2;
 
 pub(crate) const CONTROL0: usize = 4;
 
@@ -85,6 +138,8 @@ pub(crate) const CONTROL1: usize = 5;
 pub(crate) const CONTROL3: usize = 7;
 
 pub(crate) const MASK: usize = 8;
+
+pub(crate) const POWER: usize = 9;
 
 pub(crate) const MASKA: usize = 12;
 
@@ -154,6 +209,13 @@ pub(crate) fn has(mask: u8, x: u8) -> bool
     ensures { λ r. ⌜ r ≡ has mask x ⌝ }
 {
     x & mask != 0
+}
+
+// A mask, or no bit.
+pub(crate) fn flag(mask: u8, on: bool) -> u8
+    ensures { λ r. ⌜ (r ≡ flag mask on) × (r ≤ mask) ⌝ }
+{
+    if on { mask } else { 0 }
 }
 
 // Exactly one of Switches1's bits 1:0.

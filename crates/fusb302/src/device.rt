@@ -1,7 +1,9 @@
-// The device: registers, both FIFOs, interrupts, and the request that is open.
+// The device: registers, both FIFOs, interrupts, the request that is open, and the voltages on its pins.
 use crate::bits::RETRYFAIL;
 use crate::bits::SOFTFAIL;
 use crate::fifo::Fifo;
+use crate::pins::Millivolts;
+use crate::pins::Pins;
 use crate::queue::Queue;
 ghost use mathlib.Core.Path.{_≡_};
 ghost use Rattle.machine.specs.Status.{clearedAt};
@@ -47,6 +49,7 @@ pub struct Device {
     pub(crate) status: Status,
     pub(crate) ints: Ints,
     pub(crate) request: Request,
+    pub(crate) pins: Pins,
 }
 
 pub enum Reply {
@@ -145,6 +148,11 @@ impl Device {
                 resetting: false,
                 sent: 0,
                 waited: 0,
+            },
+            pins: Pins {
+                cc1: Millivolts(0),
+                cc2: Millivolts(0),
+                vbus: Millivolts(0),
             },
         }
     }

@@ -1,10 +1,24 @@
 // What can be read: registers, status, interrupts, the port; and the level of INT_N (01, 'Registers').
+use crate::bits::ALERT;
+use crate::bits::COMP;
 use crate::bits::CONTROL0;
+use crate::bits::CRC_CHK;
 use crate::bits::INT_MASK;
 use crate::bits::MASK;
 use crate::bits::MASKA;
 use crate::bits::MASKB;
 use crate::bits::Place;
+use crate::bits::RX_EMPTY;
+use crate::bits::RX_FULL;
+use crate::bits::RXSOP;
+use crate::bits::RXSOP1;
+use crate::bits::RXSOP1DB;
+use crate::bits::RXSOP2;
+use crate::bits::RXSOP2DB;
+use crate::bits::TX_EMPTY;
+use crate::bits::TX_FULL;
+use crate::bits::VBUSOK;
+use crate::bits::flag;
 use crate::bits::has;
 use crate::bits::place_of;
 use crate::device::Device;
@@ -17,17 +31,10 @@ ghost use mathlib.Core.Bool.{_||_};
 ghost use Prim.Native.Nat.{_+_, _-_, _≤_};
 ghost use lib.Dec.{eqb};
 ghost use lib.ListN.{length, getD};
-ghost use Rattle.machine.specs.Status.{txRoom, rxRoom, flag, lastIs, status1aOf, status0Of, status1Of, shown};
+ghost use Rattle.machine.specs.Status.{txRoom, rxRoom, RXSOP2, RXSOP1, flag, lastIs, status1aOf, status0Of, status1Of, shown};
 ghost use Rattle.machine.specs.Events.{read};
 ghost use Rattle.fusb302.specs.View.{view, Arranged, Asks, Level};
 ghost use Rattle.fusb302.specs.Serves.{Serves, PortRead};
-
-// A mask, or no bit.
-fn flag(mask: u8, on: bool) -> u8
-    ensures { λ r. ⌜ (r ≡ flag mask on) × (r ≤ mask) ⌝ }
-{
-    if on { mask } else { 0 }
-}
 
 // Either FIFO full.
 fn either_full(rx: usize, tx: usize) -> bool
@@ -47,9 +54,9 @@ impl Device {
     {
         let kind = self.status.kind;
         match kind {
-            4 => 0x04,
-            3 => 0x02,
-            0 => 0x01,
+            4 => RXSOP2DB,
+            3 => RXSOP1DB,
+            0 => RXSOP,
             _ => 0,
         }
     }
@@ -59,17 +66,22 @@ impl Device {
         ensures { λ r. ⌜ r ≡ status0Of (view self) ⌝ }
     {
         let full = either_full(self.rx.len, self.tx.len);
-        flag(0x10, self.status.crc_chk) + flag(0x08, full)
+        let shown = self.readings();
+        flag(VBUSOK, shown.vbus_ok)
+            + flag(COMP, shown.comp)
+            + flag(CRC_CHK, self.status.crc_chk)
+            + flag(ALERT, full)
+            + shown.bc_lvl
     }
 
-    // SOP'' 80, SOP' 40
+    // The kinds that 41 shows.
     fn rx_kind(self) -> u8
-        ensures { λ r. ⌜ (r ≡ flag 0x80 (lastIs (view self) 2) + flag 0x40 (lastIs (view self) 1)) × (r ≤ 0xC0) ⌝ }
+        ensures { λ r. ⌜ (r ≡ flag RXSOP2 (lastIs (view self) 2) + flag RXSOP1 (lastIs (view self) 1)) × (r ≤ 0xC0) ⌝ }
     {
         let kind = self.status.kind;
         match kind {
-            2 => 0x80,
-            1 => 0x40,
+            2 => RXSOP2,
+            1 => RXSOP1,
             _ => 0,
         }
     }
@@ -81,10 +93,10 @@ impl Device {
         let rx = self.rx.len;
         let tx = self.tx.len;
         self.rx_kind()
-            + flag(0x20, rx == 0)
-            + flag(0x10, rx == Fifo::CAPACITY)
-            + flag(0x08, tx == 0)
-            + flag(0x04, tx == Queue::CAPACITY)
+            + flag(RX_EMPTY, rx == 0)
+            + flag(RX_FULL, rx == Fifo::CAPACITY)
+            + flag(TX_EMPTY, tx == 0)
+            + flag(TX_FULL, tx == Queue::CAPACITY)
     }
 
     fn shown(self, address: u8) -> u8

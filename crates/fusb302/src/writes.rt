@@ -36,7 +36,7 @@ ghost use Rattle.machine.specs.Registers.{fifos, has, TX-FLUSH, TX-START};
 ghost use Rattle.machine.specs.Queue.{START, isMessage};
 ghost use Rattle.machine.specs.Requests.{driverOn};
 ghost use Rattle.machine.specs.Events.{write};
-ghost use Rattle.machine.specs.Step.{pdReset, queues, control0Written, control1Written, control3Written, resetWritten, portWritten, writes};
+ghost use Rattle.machine.specs.Step.{restored, pdReset, queues, control0Written, control1Written, control3Written, resetWritten, portWritten, written};
 ghost use Rattle.fusb302.specs.Queued.{queued, Kept};
 ghost use Rattle.fusb302.specs.View.{view, Arranged, Asks};
 ghost use Rattle.fusb302.specs.Serves.{Becomes, Does, DoesQuietly, Serves, Refuses, startNo};
@@ -218,12 +218,22 @@ impl Device {
         cleared
     }
 
+    // As after power-up, but the voltages are what they are.
+    fn restored(self) -> Device
+        ensures { λ r. ⌜ Becomes (restored (view self)) r ⌝ }
+    {
+        let pins = self.pins;
+        let mut new = Device::power_up();
+        new.pins = pins;
+        new
+    }
+
     fn reset_written(self, value: u8) -> Outcome
         requires { ⌜ Arranged self ⌝ }
         ensures { λ r. ⌜ DoesQuietly (resetWritten value (view self)) r ⌝ }
     {
         if has(SW_RES, value) {
-            return Device::power_up().done(0);
+            return self.restored().done(0);
         }
         if has(PD_RESET, value) {
             return self.pd_reset().done(0);
@@ -233,11 +243,12 @@ impl Device {
 
     fn write_taken(mut self, address: u8, value: u8, symbols: &mut [u8]) -> Outcome
         requires { ⌜ Asks self × Refuses (view self) address value 0 × (frameRoom ≤ length (now symbols)) ⌝ }
-        ensures { λ r. ⌜ Does (writes address value (view self)) (now (symbols .entry)) r (now (symbols .exit)) ⌝ }
+        ensures { λ r. ⌜ Does (written address value (view self)) (now (symbols .entry)) r (now (symbols .exit)) ⌝ }
     {
         if address == 0x43 {
             return self.port_written(value, symbols);
         }
+        let before = self.readings();
         let at = (address - 2) as usize;
         let mut cells = self.cells;
         cells[at] = value & stored_bits(address);
@@ -247,7 +258,7 @@ impl Device {
             0x07 => self.control1_written(value),
             0x09 => self.control3_written(value, symbols),
             0x0C => self.reset_written(value),
-            _ => self.done(0),
+            _ => self.reports(before).done(0),
         }
     }
 

@@ -72,6 +72,7 @@ made s =
       status = record { status0a = s .status .status0a; «crc_chk» = s .status .crcChk; kind = kindFor (s .status .kind) };
       ints = record { a = s .ints .a; b = s .ints .b; main = s .ints .main };
       request = requestFor (s .request);
+      pins = record { cc1 = record { 0 = s .pins .cc1 }; cc2 = record { 0 = s .pins .cc2 }; vbus = record { 0 = s .pins .vbus } };
     }
 
 -- ---- it stands for that state

@@ -14,7 +14,7 @@ use Rattle.machine.specs.State.{State, reg}
 use Rattle.machine.specs.Status.{txRoom}
 use Rattle.machine.specs.Queue.{inside, isToken, isMessage}
 use Rattle.machine.specs.Requests.{opened, driverOn}
-use Rattle.machine.specs.Events.{write, read, pass, hardReset, packet}
+use Rattle.machine.specs.Events.{write, read, pass, hardReset, packet, sense}
 use Rattle.machine.specs.Refusals.{
   txStart,
   starts,
@@ -50,6 +50,10 @@ module _ (s : State) (room : ℕ) where
   pub reset-checks : refusal s (hardReset room) ≡ cond (ltb room frameRoom) (some 12) none
   unfolding refusal firstNo no12 no1 no2 no6 no3 no5 no4 no7 no8 no11 no9 no10
   reset-checks = refl
+
+  pub sense-checks : (x y z : ℕ) → refusal s (sense room x y z) ≡ cond (ltb room frameRoom) (some 12) none
+  unfolding refusal firstNo no12 no1 no2 no6 no3 no5 no4 no7 no8 no11 no9 no10
+  sense-checks x y z = refl
 
   pub packet-checks : (k : ℕ) (m : List ℕ)
       → refusal s (packet room k m)

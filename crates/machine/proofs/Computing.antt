@@ -8,21 +8,22 @@ use Rattle.line.specs.Refusal.{firstNo}
 use Rattle.line.specs.Read.{furthest, setOr, setAt, nibbleRun, mayEnd, endOr, bodyAt, withSet, afterSet, shapeAt, checked, firstOf, first}
 use Rattle.line.specs.Reader.{saysOf}
 use Rattle.machine.specs.Registers.{cell, stored, isStored, readOnly, exists, has}
-use Rattle.machine.specs.Status.{status1aOf, status0Of, status1Of, clearedAt}
+use Rattle.machine.specs.Pins.{onePin, bcLvlOf, compOf, readings}
+use Rattle.machine.specs.Status.{status1aOf, status0Of, status1Of, changes, clearedAt}
 use Rattle.machine.specs.Queue.{setSymbol, announced, isToken, toCome, inside, speltBy, spelt}
 use Rattle.machine.specs.Headers.{header, twoOctets, isControl}
 use Rattle.machine.specs.Requests.{driverOn, flightIn, retriesOf, latched, start, sendHardReset, hardResetHeard, messageFails, softFails, fails, expires, elapses, passes}
 use Rattle.machine.specs.Packets.{kindOn, awaitedBy, repliesTo, keeps, stores, accepts, hears}
 use Rattle.machine.specs.Refusals.{txStart, portStart, starts, sendsReset, toBeStored, queueAt, no12, no1, no2, no6, no3, no5, no4, no7, no8, no11, no9, no10, refusal}
-use Rattle.machine.specs.Step.{restored, pdReset, queues, control0Written, control1Written, control3Written, resetWritten, portWritten, commands, writes, readValue, afterRead, accepted, replyTo, resultOf, step, after, replies, frames}
+use Rattle.machine.specs.Step.{restored, pdReset, queues, control0Written, control1Written, control3Written, resetWritten, portWritten, commands, writes, swReset, written, senses, readValue, afterRead, accepted, replyTo, resultOf, step, after, replies, frames}
 
 unfoldable pub computed : Unit {0}
 unfolding symbolOf placeOf nibbleOf isNibble encoded octetsOf setOf carries poly crcBit crcBits crcOctet crcFrom crcOf
     fourOctets withCrc drawn sealed symbolsOf joined firstNo common kindFrom furthest setOr setAt nibbleRun mayEnd endOr bodyAt
     withSet afterSet shapeAt number crcRight checked firstOf first saysOf cell stored isStored readOnly exists has status1aOf
-    status0Of status1Of clearedAt setSymbol announced isToken toCome inside speltBy spelt header twoOctets isControl driverOn
+    status0Of status1Of onePin bcLvlOf compOf readings changes clearedAt setSymbol announced isToken toCome inside speltBy spelt header twoOctets isControl driverOn
     flightIn retriesOf latched start sendHardReset hardResetHeard messageFails softFails fails expires elapses passes kindOn
     awaitedBy repliesTo keeps stores accepts hears txStart portStart starts sendsReset toBeStored queueAt no12 no1 no2 no6 no3 no5
     no4 no7 no8 no11 no9 no10 refusal restored pdReset queues control0Written control1Written control3Written resetWritten
-    portWritten commands writes readValue afterRead accepted replyTo resultOf step after replies frames
+    portWritten commands writes swReset written senses readValue afterRead accepted replyTo resultOf step after replies frames
 computed = tt

@@ -15,6 +15,7 @@ use Rattle.machine.specs.State.{
   Request,
   Status,
   Interrupts,
+  Pins,
   State,
   withCells,
   withTx,
@@ -22,6 +23,7 @@ use Rattle.machine.specs.State.{
   withStatus,
   withInts,
   withRequest,
+  withPins,
   withCrcChk,
   withKind,
   shows,
@@ -33,7 +35,7 @@ use Rattle.machine.specs.State.{
 use Rattle.machine.specs.Status.{txRoom, rxRoom, clearedAt}
 use Rattle.machine.specs.Requests.{over}
 use Rattle.machine.specs.Packets.{onlyIf}
-use Rattle.machine.specs.Good.{Within, KindGood, OpenGood, RequestGood, Good}
+use Rattle.machine.specs.Good.{Within, KindGood, OpenGood, RequestGood, PinsGood, Good}
 use Rattle.machine.proofs.Masks.{within-less, within-more, within-zero, cells-set}
 use Rattle.machine.specs.Theorems.{PowerUpGood}
 
@@ -53,6 +55,7 @@ power-up-good =
       interruptb = refl;
       interrupt = refl;
       request = tt;
+      pins = record { cc1 = omega arith; cc2 = omega arith; vbus = omega arith };
     }
 
 -- ---- a part replaced
@@ -73,6 +76,7 @@ module _ (s : State) (g : Good s) where
         interruptb = g .interruptb;
         interrupt = g .interrupt;
         request = g .request;
+        pins = g .pins;
       }
 
   -- queue and request together, since they hang together
@@ -90,6 +94,7 @@ module _ (s : State) (g : Good s) where
         interruptb = g .interruptb;
         interrupt = g .interrupt;
         request = p;
+        pins = g .pins;
       }
 
   pub keeps-rx : (q : List ℕ) → Octets q → length q ≤ rxRoom → Good (withRx q s)
@@ -106,6 +111,7 @@ module _ (s : State) (g : Good s) where
         interruptb = g .interruptb;
         interrupt = g .interrupt;
         request = g .request;
+        pins = g .pins;
       }
 
   pub keeps-status : (x : Status) → Within 0x33 (x .status0a) → KindGood (x .kind) → Good (withStatus x s)
@@ -122,9 +128,10 @@ module _ (s : State) (g : Good s) where
         interruptb = g .interruptb;
         interrupt = g .interrupt;
         request = g .request;
+        pins = g .pins;
       }
 
-  pub keeps-ints : (x : Interrupts) → Within 0x3F (x .a) → Within 0x01 (x .b) → Within 0x18 (x .main) → Good (withInts x s)
+  pub keeps-ints : (x : Interrupts) → Within 0x3F (x .a) → Within 0x01 (x .b) → Within 0xB9 (x .main) → Good (withInts x s)
   keeps-ints x h k m =
       record {
         cells = g .cells;
@@ -138,6 +145,24 @@ module _ (s : State) (g : Good s) where
         interruptb = k;
         interrupt = m;
         request = g .request;
+        pins = g .pins;
+      }
+
+  pub keeps-pins : (x : Pins) → PinsGood x → Good (withPins x s)
+  keeps-pins x h =
+      record {
+        cells = g .cells;
+        tx = g .tx;
+        tx-few = g .tx-few;
+        rx = g .rx;
+        rx-few = g .rx-few;
+        status0a = g .status0a;
+        kind = g .kind;
+        interrupta = g .interrupta;
+        interruptb = g .interruptb;
+        interrupt = g .interrupt;
+        request = g .request;
+        pins = h;
       }
 
 -- ---- what the definitions do to a part
@@ -167,14 +192,14 @@ module _ (s : State) (g : Good s) where
   pub keeps-raises-b : (m : ℕ) → Within 0x01 m → Good (raisesB m s)
   keeps-raises-b m h = keeps-ints s g _ (g .interrupta) (within-more 0x01 (s .ints .b) m (g .interruptb) h) (g .interrupt)
 
-  pub keeps-raises : (m : ℕ) → Within 0x18 m → Good (raises m s)
-  keeps-raises m h = keeps-ints s g _ (g .interrupta) (g .interruptb) (within-more 0x18 (s .ints .main) m (g .interrupt) h)
+  pub keeps-raises : (m : ℕ) → Within 0xB9 m → Good (raises m s)
+  keeps-raises m h = keeps-ints s g _ (g .interrupta) (g .interruptb) (within-more 0xB9 (s .ints .main) m (g .interrupt) h)
 
   pub keeps-cleared : (r : ℕ) → Good (withInts (clearedAt r (s .ints)) s)
   unfolding clearedAt
   keeps-cleared r =
       keeps-ints s g _ (either 0x3F (s .ints .a) (g .interrupta) (eqb r interrupta)) (either 0x01 (s .ints .b) (g .interruptb) (eqb r interruptb))
-      (either 0x18 (s .ints .main) (g .interrupt) (eqb r interrupt))
+      (either 0xB9 (s .ints .main) (g .interrupt) (eqb r interrupt))
     where
       either : (m x : ℕ) → Within m x → (b : Bool) → Within m (cond b 0 x)
       either m x h true = within-zero m

@@ -1,9 +1,11 @@
 -- Laws of the machine, and the proofs of specs/Theorems.antt.
 pub mod Computing
 pub mod Masks
+pub mod Comparing
 pub mod Masking
 pub mod Refusing
 pub mod Checking
+pub mod Sensing
 pub mod Spelling
 pub mod Blocks
 pub mod Messages

@@ -12,15 +12,16 @@ use lib.Dec.{eqb}
 use lib.ListN.{getD, set, drop}
 use lib.Seq.{set-set, set-comm, getD-set-other}
 use Rattle.line.specs.Frame.{Frame}
-use Rattle.machine.specs.Registers.{storedBits, stored, cell, switches1, control0, control1, control3, mask, reset, maska, maskb, fifos, has, TX-FLUSH, PD-RESET, SW-RES}
-use Rattle.machine.specs.State.{Phase, message, softReset, State, Request, powerUp, withCells, withRx, withInts}
-use Rattle.machine.specs.Status.{status1aOf, status0Of, status1Of, clearedAt}
+use Rattle.machine.specs.Registers.{storedBits, stored, cell, switches0, switches1, measure, control0, control1, control3, mask, power, reset, maska, maskb, fifos, has, TX-FLUSH, PD-RESET, SW-RES}
+use Rattle.machine.specs.State.{Phase, message, softReset, Pins, State, Request, powerUp, withCells, withRx, withInts, withPins, raises}
+use Rattle.machine.specs.Pins.{Readings, readings}
+use Rattle.machine.specs.Status.{status1aOf, status0Of, status1Of, changes, reports, clearedAt}
 use Rattle.machine.specs.Headers.{Soft-Reset, isControl}
 use Rattle.machine.specs.Requests.{Effect, silent, sendsIf, latched, start, over, acknowledged, sendHardReset, hardResetHeard, messageFails, softFails, fails, expires, elapses, passes}
 use Rattle.machine.specs.Packets.{kindOn, awaited, awaitedBy, repliesTo, onlyIf, checks, softResetHeard, noted, keeps, stores, accepts, hears}
-use Rattle.machine.specs.Events.{Event, write, read, pass, hardReset, packet, value, onRead}
+use Rattle.machine.specs.Events.{Event, write, read, pass, hardReset, packet, sense, value, onRead}
 use Rattle.machine.specs.Refusals.{portStart, starts, toBeStored, queueAt, no12, no1, no2, no6, no3, no5, no4, no7, no8, no11, no9, no10, refusal}
-use Rattle.machine.specs.Step.{restored, pdReset, queues, control0Written, control1Written, control3Written, resetWritten, portWritten, commands, writes, afterRead, readValue, accepted, replyTo, resultOf, step}
+use Rattle.machine.specs.Step.{restored, pdReset, queues, control0Written, control1Written, control3Written, resetWritten, portWritten, commands, writes, swReset, written, senses, afterRead, readValue, accepted, replyTo, resultOf, step}
 use Rattle.machine.specs.Theorems.{SameButMasks, isMask, MasksOnlyMask}
 
 -- ---- cells
@@ -61,10 +62,13 @@ cleared-set c i x =
 
 -- the registers that a step reads
 record Agree (c d : List ℕ) : Type 0 where
+  s0 : cell switches0 d ≡ cell switches0 c
   sw : cell switches1 d ≡ cell switches1 c
+  me : cell measure d ≡ cell measure c
   c0 : cell control0 d ≡ cell control0 c
   c1 : cell control1 d ≡ cell control1 c
   c3 : cell control3 d ≡ cell control3 c
+  pw : cell power d ≡ cell power c
 
 kept : (i : ℕ) → (i ≡ 8 → ⊥) → (i ≡ 12 → ⊥) → (i ≡ 13 → ⊥) → (l : List ℕ) → getD (cleared l) i 0 ≡ getD l i 0
 unfolding cleared
@@ -78,10 +82,13 @@ agree : (c d : List ℕ) → cleared c ≡ cleared d → Agree c d
 unfolding cell
 agree c d h =
     record {
+      s0 = same-cell c d h 0 (λ e. omega arith) (λ e. omega arith) (λ e. omega arith);
       sw = same-cell c d h 1 (λ e. omega arith) (λ e. omega arith) (λ e. omega arith);
+      me = same-cell c d h 2 (λ e. omega arith) (λ e. omega arith) (λ e. omega arith);
       c0 = same-cell c d h 4 (λ e. omega arith) (λ e. omega arith) (λ e. omega arith);
       c1 = same-cell c d h 5 (λ e. omega arith) (λ e. omega arith) (λ e. omega arith);
       c3 = same-cell c d h 7 (λ e. omega arith) (λ e. omega arith) (λ e. omega arith);
+      pw = same-cell c d h 9 (λ e. omega arith) (λ e. omega arith) (λ e. omega arith);
     }
 
 -- ---- other cells, and the same effect
@@ -198,7 +205,7 @@ same-if true x y u v p q = p
 same-if false x y u v p q = q
 
 itself : (c : List ℕ) → Agree c c
-itself c = record { sw = refl; c0 = refl; c1 = refl; c3 = refl }
+itself c = record { s0 = refl; sw = refl; me = refl; c0 = refl; c1 = refl; c3 = refl; pw = refl }
 
 module _ (s : State) (d : List ℕ) (h : cleared (s .cells) ≡ cleared d) where
   -- an effect that reads no mask leaves the cells, and so the masks alone differ
@@ -214,7 +221,8 @@ module _ (s : State) (d : List ℕ) (h : cleared (s .cells) ≡ cleared d) where
   reset-same v = go (has SW-RES v)
     where
       go : (b : Bool)
-          → Same (silent (cond b powerUp (onlyIf (has PD-RESET v) pdReset s))) (silent (cond b powerUp (onlyIf (has PD-RESET v) pdReset (withCells d s))))
+          → Same (silent (cond b (withPins (s .pins) powerUp) (onlyIf (has PD-RESET v) pdReset s)))
+          (silent (cond b (withPins (s .pins) powerUp) (onlyIf (has PD-RESET v) pdReset (withCells d s))))
       go true = record { state = record { same = refl }; frames = refl }
       go false = same-with (λ (u : State). silent (onlyIf (has PD-RESET v) pdReset u)) (λ c a. ap silent (sym (cells-if c (has PD-RESET v) (pdReset s) s)))
 
@@ -225,6 +233,26 @@ module _ (s : State) (d : List ℕ) (h : cleared (s .cells) ≡ cleared d) where
       (same-if (eqb a control1) _ _ _ _ (same-with (control1Written v) (λ c g. control1-with c s g v))
       (same-if (eqb a control3) _ _ _ _ (same-with (control3Written v) (λ c g. control3-with c s g v))
       (same-if (eqb a reset) _ _ _ _ (reset-same v) (same-with silent (λ c g. refl)))))
+
+-- ---- what the comparators show
+
+readings-with : (s : State) (d : List ℕ) → Agree (s .cells) d → readings (withCells d s) ≡ readings s
+unfolding readings
+readings-with s d same = rw (same .s0, same .me, same .pw) refl
+
+shown-same : (s t : State) → SameButMasks s t → readings t ≡ readings s
+unfolding cleared stored
+shown-same s t h =
+    ap (λ (u : State). readings u) (sym (ap (withCells (t .cells)) (h .same)))
+    ∙ readings-with s (t .cells) (agree (s .cells) (t .cells) (ap (λ (u : State). u .cells) (h .same)))
+
+reports-same : (s u t v : State) → SameButMasks s t → SameButMasks u v → SameButMasks (reports s u) (reports t v)
+reports-same s u t v h k =
+    record {
+      same =
+          rw (shown-same s t h, shown-same u v k)
+          (ap (raises (changes (readings s) (readings u))) (k .same));
+    }
 
 stored-same : (c d : List ℕ) (a v : ℕ) → cleared c ≡ cleared d → cleared (stored a v c) ≡ cleared (stored a v d)
 unfolding stored
@@ -243,9 +271,21 @@ module _ (s : State) (d : List ℕ) (h : cleared (s .cells) ≡ cleared d) where
       same-if (eqb a fifos) _ _ _ _ (same-with s d h (portWritten v) (λ c g. port-with c s g v))
       (commands-same (withCells (stored a v (s .cells)) s) (stored a v d) (stored-same (s .cells) d a v h) a v)
 
+  written-same : (a v : ℕ) → Same (written a v s) (written a v (withCells d s))
+  unfolding written
+  written-same a v =
+      let w = writes-same a v in
+      record { state = go (swReset a v) w; frames = w .frames }
+    where
+      go : (b : Bool) → Same (writes a v s) (writes a v (withCells d s))
+          → SameButMasks (cond b (writes a v s .state) (reports s (writes a v s .state)))
+          (cond b (writes a v (withCells d s) .state) (reports (withCells d s) (writes a v (withCells d s) .state)))
+      go true w = w .state
+      go false w = reports-same s _ (withCells d s) _ (same-with s d h silent (λ c g. refl) .state) (w .state)
+
   accepted-same : (e : Event) → Same (accepted s e) (accepted (withCells d s) e)
-  unfolding accepted afterRead hardResetHeard
-  accepted-same (write r a v) = writes-same a v
+  unfolding accepted afterRead hardResetHeard senses
+  accepted-same (write r a v) = written-same a v
   accepted-same (read r a) =
       same-with s d h (λ (u : State). silent (cond (eqb a fifos) (withRx (drop 1 (u .rx)) u) (withInts (clearedAt a (u .ints)) u)))
       (λ c g. ap silent (go c (eqb a fifos)))
@@ -258,6 +298,10 @@ module _ (s : State) (d : List ℕ) (h : cleared (s .cells) ≡ cleared d) where
   accepted-same (pass r n) = same-with s d h (λ (u : State). passes n (u .request) u) (λ c g. passes-with c n (s .request) s)
   accepted-same (hardReset r) = same-with s d h (λ (u : State). silent (hardResetHeard u)) (λ c g. refl)
   accepted-same (packet r k m) = same-with s d h (hears k m) (λ c g. hears-with c s g k m)
+  accepted-same (sense r x y z) =
+      let p : Pins = record { cc1 = x; cc2 = y; vbus = z } in
+      same-with s d h (λ (u : State). silent (senses p u))
+      (λ c g. rw (readings-with s c g, readings-with (withPins p s) c g) refl)
 
   refusal-same : (e : Event) → refusal (withCells d s) e ≡ refusal s e
   unfolding refusal portStart starts toBeStored queueAt no12 no1 no2 no6 no3 no5 no4 no7 no8 no11 no9 no10
@@ -266,6 +310,7 @@ module _ (s : State) (d : List ℕ) (h : cleared (s .cells) ≡ cleared d) where
   refusal-same (pass r n) = refl
   refusal-same (hardReset r) = refl
   refusal-same (packet r k m) = refl
+  refusal-same (sense r x y z) = refl
 
   step-same : (e : Event)
       → SameButMasks (step s e .state) (step (withCells d s) e .state) × (step s e .frames ≡ step (withCells d s) e .frames)
@@ -282,8 +327,11 @@ module _ (s : State) (d : List ℕ) (h : cleared (s .cells) ≡ cleared d) where
   value-same a n =
       let e = neither (eqb a mask) (eqb a maska || eqb a maskb) n in
       let f = neither (eqb a maska) (eqb a maskb) (e .1) in
-      rw (same-cell (s .cells) d h (a - 2)
-      (λ z. eqb-false a 0x0A (e .0) (omega arith)) (λ z. eqb-false a 0x0E (f .0) (omega arith)) (λ z. eqb-false a 0x0F (f .1) (omega arith))) refl
+      rw (
+        same-cell (s .cells) d h (a - 2)
+            (λ z. eqb-false a 0x0A (e .0) (omega arith)) (λ z. eqb-false a 0x0E (f .0) (omega arith)) (λ z. eqb-false a 0x0F (f .1) (omega arith)),
+        readings-with s d (agree (s .cells) d h),
+      ) refl
 
   reply-same : (e : Event) → onRead isMask e ≡ false → replyTo (withCells d s) e ≡ replyTo s e
   unfolding replyTo
@@ -292,6 +340,7 @@ module _ (s : State) (d : List ℕ) (h : cleared (s .cells) ≡ cleared d) where
   reply-same (pass r k) n = refl
   reply-same (hardReset r) n = refl
   reply-same (packet r k m) n = refl
+  reply-same (sense r x y z) n = refl
 
   step-reply : (e : Event) → onRead isMask e ≡ false → step s e .reply ≡ step (withCells d s) e .reply
   unfolding step resultOf

@@ -27,7 +27,7 @@ last-or a b = omega (arith, or-step a b)
 doubled : ℕ → ℕ → ℕ
 doubled x y = x * 2 + y
 
-and-assoc : (a b c : ℕ) → bitAnd (bitAnd a b) c ≡ bitAnd a (bitAnd b c)
+pub and-assoc : (a b c : ℕ) → bitAnd (bitAnd a b) c ≡ bitAnd a (bitAnd b c)
 unfolding doubled
 and-assoc =
     bin-ind (λ (a : ℕ). (b c : ℕ) → bitAnd (bitAnd a b) c ≡ bitAnd a (bitAnd b c))
@@ -42,7 +42,7 @@ and-assoc =
     least : (a b c : ℕ) → min (min a b) c ≡ min a (min b c)
     least a b c = omega arith
 
-and-or : (a b c : ℕ) → bitAnd (bitOr a b) c ≡ bitOr (bitAnd a c) (bitAnd b c)
+pub and-or : (a b c : ℕ) → bitAnd (bitOr a b) c ≡ bitOr (bitAnd a c) (bitAnd b c)
 unfolding doubled
 and-or =
     bin-ind (λ (a : ℕ). (b c : ℕ) → bitAnd (bitOr a b) c ≡ bitOr (bitAnd a c) (bitAnd b c))

@@ -42,6 +42,7 @@ use Rattle.machine.specs.Refusals.{
 }
 use Rattle.machine.specs.Step.{queues, portWritten, writes, accepted, resultOf, step, after, frames}
 use Rattle.machine.specs.Theorems.{AnyMessageSent}
+use Rattle.machine.proofs.Comparing.{port-written}
 use Rattle.machine.proofs.Spelling.{set-four, spelt-of}
 use Rattle.machine.proofs.Blocks.{to-come-append, storable, AllStored, Stores, stores-append, set-stored, block-stored, closing-stored}
 
@@ -79,16 +80,16 @@ module _ (s : State) (room v : ℕ) (enough : frameRoom ≤ room) (free : s .req
 
   pub stored-step : storable (toCome 0 (s .tx)) v ≡ true → length (s .tx) < txRoom
       → (step s (write room fifos v) .state ≡ queues v s) × (step s (write room fifos v) .frames ≡ [])
-  unfolding step resultOf accepted writes portWritten portStart inside
+  unfolding step resultOf accepted portWritten portStart inside
   stored-step e h =
       let b = stored-no (inside (s .tx)) (isToken v) (eqb v START) (isMessage (s .tx)) (driverOn (reg switches1 s)) e in
       let taken : refusal s (write room fifos v) ≡ none = rw (port-refusal, lt-leb txRoom (length (s .tx)) h) (b .0) in
-      (rw (taken, b .1), rw (taken, b .1))
+      (rw (taken, port-written v s, b .1), rw (taken, port-written v s, b .1))
 
 start-sends : (s : State) (q : List ℕ) (room : ℕ) (f : Frame) → frameRoom ≤ room → Ready s q → toCome 0 q ≡ 0 → spelt q ≡ some f
     → frames s (write room fifos START ∷ []) ≡ f ∷ []
-unfolding frames step resultOf accepted writes portWritten portStart start isToken setSymbol inside
-start-sends s q room f enough r left e = simp (port-refusal s room START enough (r .free), r .holds, left, e, r .on)
+unfolding frames step resultOf accepted portWritten portStart start isToken setSymbol inside
+start-sends s q room f enough r left e = simp (port-refusal s room START enough (r .free), port-written START s, r .holds, left, e, r .on)
 
 queued : (s : State) (q : List ℕ) (v : ℕ) → Ready s q → Ready (queues v s) (q ++ (v ∷ []))
 unfolding queues

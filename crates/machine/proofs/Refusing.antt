@@ -12,7 +12,7 @@ use lib.Seq.{split-at}
 use Rattle.line.specs.Frame.{Octets}
 use Rattle.line.specs.Refusal.{Row, firstNo}
 use Rattle.machine.specs.State.{State, powerUp}
-use Rattle.machine.specs.Events.{Event, write, read, pass, hardReset, packet, Fits, no}
+use Rattle.machine.specs.Events.{Event, write, read, pass, hardReset, packet, sense, Fits, no}
 use Rattle.machine.specs.Refusals.{noRow, table, refusal}
 use Rattle.machine.specs.Step.{replyTo, resultOf, step, after}
 use Rattle.machine.specs.Bench.{w, port, nameQueue}
@@ -98,6 +98,7 @@ accepted-reply s (read r a) n q = let z : _≡_ {A = ℕ} 0 1 = cc in omega arit
 accepted-reply s (pass r k) n q = let z : _≡_ {A = ℕ} 0 1 = cc in omega arith
 accepted-reply s (hardReset r) n q = let z : _≡_ {A = ℕ} 0 1 = cc in omega arith
 accepted-reply s (packet r k m) n q = let z : _≡_ {A = ℕ} 0 1 = cc in omega arith
+accepted-reply s (sense r x y z) n q = let z : _≡_ {A = ℕ} 0 1 = cc in omega arith
 
 result-no : (o : Option ℕ) (s : State) (e : Event) (n : ℕ) → resultOf o s e .reply ≡ no n → o ≡ some n
 unfolding resultOf

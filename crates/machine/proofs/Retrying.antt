@@ -43,8 +43,9 @@ use Rattle.machine.specs.Requests.{
 use Rattle.machine.specs.Packets.{onlyIf}
 use Rattle.machine.specs.Events.{Event, write, pass}
 use Rattle.machine.specs.Refusals.{txStart, portStart, starts, no12, no1, no2, no6, no3, no5, no4, no7, no8, no11, no9, no10, refusal}
-use Rattle.machine.specs.Step.{control0Written, portWritten, commands, writes, accepted, resultOf, step, after, frames}
+use Rattle.machine.specs.Step.{control0Written, portWritten, written, accepted, resultOf, step, after, frames}
 use Rattle.machine.proofs.Masks.{set-by, set-other, within-and, outside}
+use Rattle.machine.proofs.Comparing.{port-written, control0-written}
 use Rattle.machine.specs.Theorems.{
   passing,
   AllParts,
@@ -324,19 +325,18 @@ control0-opens s cells v f e h q = rw h (go (has TX-FLUSH v) (rw h at q))
     go false q = start-opens s cells f e q
 
 abbrev Opens : State → Frame → ℕ → ℕ → Type 0
-Opens s f v a = writes a v s .frames ≡ f ∷ [] → Opened s (writes a v s .state) f
+Opens s f v a = written a v s .frames ≡ f ∷ [] → Opened s (written a v s .state) f
 
 tx-opens : (s : State) (v : ℕ) (f : Frame) → has TX-START v ≡ true → Opens s f v control0
-unfolding writes commands
-tx-opens s v f h q = control0-opens s (stored control0 v (s .cells)) v f (still-latched s v) h q
+tx-opens s v f h = rw (control0-written v s) (control0-opens s (stored control0 v (s .cells)) v f (still-latched s v) h)
 
 port-opens : (s : State) (v : ℕ) (f : Frame) → portStart s fifos v ≡ true → Opens s f v fifos
-unfolding writes portWritten
-port-opens s v f h q = rw h (start-opens s (s .cells) f refl (rw h at q))
+unfolding portWritten
+port-opens s v f h = rw (port-written v s, h) (start-opens s (s .cells) f refl)
 
-writes-open : (s : State) (a v : ℕ) (f : Frame) → starts s a v ≡ true → Opens s f v a
+written-opens : (s : State) (a v : ℕ) (f : Frame) → starts s a v ≡ true → Opens s f v a
 unfolding starts txStart portStart
-writes-open s a v f h = go (txStart a v) refl h
+written-opens s a v f h = go (txStart a v) refl h
   where
     go : (b : Bool) → txStart a v ≡ b → b || portStart s a v ≡ true → Opens s f v a
     go true e p =
@@ -351,7 +351,7 @@ StepOpens s f e = refusal s e ≡ none → step s e .frames ≡ f ∷ [] → Ope
 
 step-opens : (s : State) (room a v : ℕ) (f : Frame) → starts s a v ≡ true → StepOpens s f (write room a v)
 unfolding step resultOf accepted
-step-opens s room a v f h taken q = rw taken (writes-open s a v f h (rw taken at q))
+step-opens s room a v f h taken q = rw taken (written-opens s a v f h (rw taken at q))
 
 start-opened : (s : State) (e : Event) (f : Frame) → Started s e f → Opened s (step s e .state) f
 start-opened s e f st =

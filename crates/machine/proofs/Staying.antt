@@ -35,12 +35,17 @@ use Rattle.machine.specs.Registers.{
   PD-RESET,
   SW-RES,
 }
-use Rattle.machine.specs.State.{Phase, softReset, Request, State, powerUp, reg, cleared, withCells, withTx, withRx, withInts, raises}
+use Rattle.machine.specs.State.{Phase, softReset, Request, Pins, State, powerUp, reg, cleared, withCells, withTx, withRx, withInts, withPins, raises}
+use Rattle.machine.specs.Pins.{Readings, readings}
 use Rattle.machine.specs.Status.{
   txRoom,
   rxRoom,
   txFull,
   rxFull,
+  differ,
+  flag,
+  changes,
+  reports,
   clearedAt,
   SOFTFAIL,
   RETRYFAIL,
@@ -53,8 +58,11 @@ use Rattle.machine.specs.Status.{
   I-SOFTRST,
   I-HARDRST,
   I-GCRCSENT,
+  I-VBUSOK,
+  I-COMP-CHNG,
   I-CRC-CHK,
   I-ALERT,
+  I-BC-LVL,
 }
 use Rattle.machine.specs.Queue.{START, inside, isToken, spelt, isSome, isMessage}
 use Rattle.machine.specs.Headers.{GoodCRC, Soft-Reset, control, twoOctets, messageId, isControl}
@@ -85,7 +93,7 @@ use Rattle.machine.specs.Requests.{
   acknowledged,
 }
 use Rattle.machine.specs.Packets.{kindOn, fitsRx, repliesTo, rxToken, onlyIf, awaited, softResetHeard, noted, keeps, stores, accepts, hears}
-use Rattle.machine.specs.Events.{Event, write, read, pass, hardReset, packet, Fits}
+use Rattle.machine.specs.Events.{Event, write, read, pass, hardReset, packet, sense, Fits}
 use Rattle.machine.specs.Refusals.{
   txStart,
   portStart,
@@ -112,13 +120,16 @@ use Rattle.machine.specs.Step.{
   portWritten,
   commands,
   writes,
+  swReset,
+  written,
+  senses,
   afterRead,
   accepted,
   step,
   resultOf,
   after,
 }
-use Rattle.machine.specs.Good.{RequestGood, OpenGood, Good}
+use Rattle.machine.specs.Good.{Within, RequestGood, OpenGood, PinsGood, Good}
 use Rattle.machine.specs.Theorems.{AllFit, NoneApplies, StaysGood, AlwaysGood, OneFrame, WholeFrames}
 use Rattle.machine.proofs.Masks.{within-le, cells-at}
 use Rattle.machine.proofs.Refusing.{first-none-exactly}
@@ -139,6 +150,7 @@ use Rattle.machine.proofs.Keeping.{
   keeps-raises-b,
   keeps-raises,
   keeps-cleared,
+  keeps-pins,
   keeps-when,
 }
 
@@ -303,6 +315,24 @@ port-cases false true true m l a b c = (λ e. not-false m c, λ e. let z : _≡_
 port-cases false true false m l a b c = (λ e. let z : _≡_ {A = ℕ} 0 1 = cc in absurd (omega arith), λ e. b)
 port-cases false false st m l a b c = let z : _≡_ {A = ℕ} 0 1 = cc in absurd (omega arith)
 
+-- the interrupts of what is shown are among those of 42
+changes-within : (x y : Readings) → Within 0xB9 (changes x y)
+unfolding changes
+changes-within x y = go (differ (x .vbusOk) (y .vbusOk)) (differ (x .comp) (y .comp)) (not (eqb (x .bcLvl) (y .bcLvl)))
+  where
+    go : (a b c : Bool) → Within 0xB9 (flag I-VBUSOK a + (flag I-COMP-CHNG b + flag I-BC-LVL c))
+    go true true true = refl
+    go true true false = refl
+    go true false true = refl
+    go true false false = refl
+    go false true true = refl
+    go false true false = refl
+    go false false true = refl
+    go false false false = refl
+
+reports-good : (s t : State) → Good t → Good (reports s t)
+reports-good s t g = keeps-raises t g _ (changes-within (readings s) (readings t))
+
 no-request : (o : Option Request) (tx : List ℕ) → isSome o ≡ false → OpenGood o tx
 no-request none tx e = tt
 no-request (some q) tx e = let z : _≡_ {A = ℕ} 0 1 = cc in absurd (omega arith)
@@ -355,8 +385,8 @@ module _ (s : State) (g : Good s) (room v : ℕ) (octet : v < 256) where
       (λ e. quiet _ (restarts (has SW-RES v) (keeps-when _ t (has PD-RESET v) pdReset (keeps-rx _ (keeps-status _ (keeps-over _ t) cleared refl tt) [] tt (omega arith)))))
       (λ e. quiet _ t))))
     where
-      restarts : (b : Bool) {u : State} → Good u → Good (cond b powerUp u)
-      restarts true h = power-up-good
+      restarts : (b : Bool) {u : State} → Good u → Good (cond b (withPins (s .pins) powerUp) u)
+      restarts true h = keeps-pins powerUp power-up-good (s .pins) (g .pins)
       restarts false h = h
 
   writes-fine : (a : ℕ) → NoneApplies (table s (write room a v)) → Fine (writes a v s)
@@ -365,6 +395,16 @@ module _ (s : State) (g : Good s) (room v : ℕ) (octet : v < 256) where
       by-test (eqb a fifos) _ _
       (λ e. port-fine (subst (λ (x : ℕ). NoneApplies (table s (write room x v))) (eqb-true a fifos e) rows))
       (λ e. commands-fine a rows)
+
+  written-fine : (a : ℕ) → NoneApplies (table s (write room a v)) → Fine (written a v s)
+  unfolding written
+  written-fine a rows =
+      let w = writes-fine a rows in
+      record { good = go (swReset a v) (w .good); whole = w .whole; few = w .few }
+    where
+      go : (b : Bool) {t : State} → Good t → Good (cond b t (reports s t))
+      go true h = h
+      go false {t} h = reports-good s t h
 
 -- ---- events
 
@@ -377,14 +417,17 @@ reads-fine s g a = go (eqb a fifos)
     go false = keeps-cleared s g a
 
 accepted-fine : (s : State) (e : Event) → Good s → Fits e → NoneApplies (table s e) → Fine (accepted s e)
-unfolding accepted hardResetHeard no10 no11
-accepted-fine s (write r a v) g f rows = writes-fine s g r v (f .1) a rows
+unfolding accepted hardResetHeard senses no10 no11
+accepted-fine s (write r a v) g f rows = written-fine s g r v (f .1) a rows
 accepted-fine s (read r a) g f rows = quiet _ (reads-fine s g a)
 accepted-fine s (pass r n) g f rows =
     passes-fine s g n (ltb-false 1000 n (rows .1 .1 .1 .1 .1 .1 .1 .1 .1 .1 .1 .0)) (s .request) (g .request)
 accepted-fine s (hardReset r) g f rows = quiet _ (keeps-raises-a _ (keeps-shows _ (keeps-over s g) HARDRST refl) I-HARDRST refl)
 accepted-fine s (packet r k m) g f rows =
     hears-fine k m (let z = ltb-false 4 k (rows .1 .1 .1 .1 .1 .1 .1 .1 .1 .0) in omega arith) (f .1) s g
+accepted-fine s (sense r x y z) g f rows =
+    let p : Pins = record { cc1 = x; cc2 = y; vbus = z } in
+    quiet _ (reports-good s (withPins p s) (keeps-pins s g p (record { cc1 = f .0; cc2 = f .1 .0; vbus = f .1 .1 })))
 
 pub step-fine : (s : State) (e : Event) → Good s → Fits e → Fine (record { state = step s e .state; frames = step s e .frames })
 unfolding step resultOf refusal

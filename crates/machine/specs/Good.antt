@@ -3,13 +3,13 @@
 use mathlib.Core.Path.{_≡_}
 use mathlib.Core.List.{List, [], _∷_}
 use mathlib.Core.Option.{Option, none, some}
-use Prim.Native.Nat.{ℕ, _<_, _≤_}
+use Prim.Native.Nat.{ℕ, _<_, _≤_, _^_}
 use lib.Bits.{bitAnd}
 use lib.ListN.{length}
 use Rattle.line.specs.Frame.{Frame, Octets}
 use Rattle.line.specs.Kind.{sopKinds}
 use Rattle.machine.specs.Registers.{storedBits}
-use Rattle.machine.specs.State.{Phase, message, softReset, Request, State}
+use Rattle.machine.specs.State.{Phase, message, softReset, Request, Pins, State}
 use Rattle.machine.specs.Status.{txRoom, rxRoom}
 use Rattle.machine.specs.Queue.{spelt}
 use Rattle.machine.specs.Requests.{wait}
@@ -45,6 +45,12 @@ abbrev pub OpenGood : Option Request → List ℕ → Type 0
 OpenGood none tx = Unit {0}
 OpenGood (some q) tx = RequestGood q tx
 
+-- 0 to 65,535 millivolts
+pub record PinsGood (p : Pins) : Type 0 where
+  pub cc1 : p .cc1 < 2 ^ 16
+  pub cc2 : p .cc2 < 2 ^ 16
+  pub vbus : p .vbus < 2 ^ 16
+
 pub record Good (s : State) : Type 0 where
   pub cells : AllWithin storedBits (s .cells)
   pub tx : Octets (s .tx)
@@ -55,5 +61,6 @@ pub record Good (s : State) : Type 0 where
   pub kind : KindGood (s .status .kind)
   pub interrupta : Within 0x3F (s .ints .a)
   pub interruptb : Within 0x01 (s .ints .b)
-  pub interrupt : Within 0x18 (s .ints .main)
+  pub interrupt : Within 0xB9 (s .ints .main)
   pub request : OpenGood (s .request) (s .tx)
+  pub pins : PinsGood (s .pins)

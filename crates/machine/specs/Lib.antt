@@ -1,6 +1,7 @@
 -- The device as 01 describes it, in 01's order; Theorems.antt says what holds of every history.
 pub mod Registers
 pub mod State
+pub mod Pins
 pub mod Status
 pub mod Queue
 pub mod Headers

@@ -55,8 +55,14 @@ stored a v cells = set cells (a - 2) (bitAnd v (getD storedBits (a - 2) 0))
 abbrev pub deviceId : ℕ
 deviceId = 0x01
 
+abbrev pub switches0 : ℕ
+switches0 = 0x02
+
 abbrev pub switches1 : ℕ
 switches1 = 0x03
+
+abbrev pub measure : ℕ
+measure = 0x04
 
 abbrev pub control0 : ℕ
 control0 = 0x06
@@ -69,6 +75,9 @@ control3 = 0x09
 
 abbrev pub mask : ℕ
 mask = 0x0A
+
+abbrev pub power : ℕ
+power = 0x0B
 
 abbrev pub reset : ℕ
 reset = 0x0C
@@ -123,12 +132,26 @@ exists a = isStored a || (readOnly a || eqb a fifos)
 unfoldable pub has : ℕ → ℕ → Bool
 has m x = not (eqb (bitAnd x m) 0)
 
+-- Switches0
+abbrev pub MEAS-CC2 : ℕ
+MEAS-CC2 = 0x08
+
+abbrev pub MEAS-CC1 : ℕ
+MEAS-CC1 = 0x04
+
 -- Switches1
 abbrev pub AUTO-CRC : ℕ
 AUTO-CRC = 0x04
 
 abbrev pub TXCC : ℕ
 TXCC = 0x03
+
+-- Measure
+abbrev pub MEAS-VBUS : ℕ
+MEAS-VBUS = 0x40
+
+abbrev pub MDAC : ℕ
+MDAC = 0x3F
 
 -- Control0
 abbrev pub TX-FLUSH : ℕ
@@ -171,6 +194,10 @@ AUTO-SOFTRESET = 0x08
 
 abbrev pub AUTO-RETRY : ℕ
 AUTO-RETRY = 0x01
+
+-- Power
+abbrev pub PWR2 : ℕ
+PWR2 = 0x04
 
 -- Reset
 abbrev pub PD-RESET : ℕ

@@ -34,6 +34,12 @@ pub record Interrupts : Type 0 where
   pub b : ℕ
   pub main : ℕ
 
+-- millivolts on the pins (02, A1)
+pub record Pins : Type 0 where
+  pub cc1 : ℕ
+  pub cc2 : ℕ
+  pub vbus : ℕ
+
 pub record State : Type 0 where
   pub cells : List ℕ  -- registers 02 to 10
   pub tx : List ℕ  -- the transmit queue, oldest octet first
@@ -41,13 +47,22 @@ pub record State : Type 0 where
   pub status : Status
   pub ints : Interrupts
   pub request : Option Request
+  pub pins : Pins
 
 abbrev pub cleared : Status
 cleared = record { status0a = 0; crcChk = false; kind = none }
 
 abbrev pub powerUp : State
 powerUp =
-    record { cells = resets; tx = []; rx = []; status = cleared; ints = record { a = 0; b = 0; main = 0 }; request = none }
+    record {
+      cells = resets;
+      tx = [];
+      rx = [];
+      status = cleared;
+      ints = record { a = 0; b = 0; main = 0 };
+      request = none;
+      pins = record { cc1 = 0; cc2 = 0; vbus = 0 };
+    }
 
 -- a stored register as it stands
 abbrev pub reg : ℕ → State → ℕ
@@ -56,22 +71,26 @@ reg a s = cell a (s .cells)
 -- ---- with another part
 
 abbrev pub withCells : List ℕ → State → State
-withCells x s = record { cells = x; tx = s .tx; rx = s .rx; status = s .status; ints = s .ints; request = s .request }
+withCells x s = record { cells = x; tx = s .tx; rx = s .rx; status = s .status; ints = s .ints; request = s .request; pins = s .pins }
 
 abbrev pub withTx : List ℕ → State → State
-withTx x s = record { cells = s .cells; tx = x; rx = s .rx; status = s .status; ints = s .ints; request = s .request }
+withTx x s = record { cells = s .cells; tx = x; rx = s .rx; status = s .status; ints = s .ints; request = s .request; pins = s .pins }
 
 abbrev pub withRx : List ℕ → State → State
-withRx x s = record { cells = s .cells; tx = s .tx; rx = x; status = s .status; ints = s .ints; request = s .request }
+withRx x s = record { cells = s .cells; tx = s .tx; rx = x; status = s .status; ints = s .ints; request = s .request; pins = s .pins }
 
 abbrev pub withStatus : Status → State → State
-withStatus x s = record { cells = s .cells; tx = s .tx; rx = s .rx; status = x; ints = s .ints; request = s .request }
+withStatus x s = record { cells = s .cells; tx = s .tx; rx = s .rx; status = x; ints = s .ints; request = s .request; pins = s .pins }
 
 abbrev pub withInts : Interrupts → State → State
-withInts x s = record { cells = s .cells; tx = s .tx; rx = s .rx; status = s .status; ints = x; request = s .request }
+withInts x s = record { cells = s .cells; tx = s .tx; rx = s .rx; status = s .status; ints = x; request = s .request; pins = s .pins }
 
 abbrev pub withRequest : Option Request → State → State
-withRequest x s = record { cells = s .cells; tx = s .tx; rx = s .rx; status = s .status; ints = s .ints; request = x }
+withRequest x s = record { cells = s .cells; tx = s .tx; rx = s .rx; status = s .status; ints = s .ints; request = x; pins = s .pins }
+
+abbrev pub withPins : Pins → State → State
+withPins x s =
+    record { cells = s .cells; tx = s .tx; rx = s .rx; status = s .status; ints = s .ints; request = s .request; pins = x }
 
 -- ---- bits set and cleared in 3C, set in 3E, 3F and 42
 

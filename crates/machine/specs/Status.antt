@@ -1,13 +1,14 @@
 -- Status registers, interrupts and INT_N (01, 'Registers', last paragraph).
 -- Assumes nothing.
-use mathlib.Core.Bool.{Bool, false, not, cond, _&&_, _||_}
+use mathlib.Core.Bool.{Bool, true, false, not, cond, _&&_, _||_}
 use mathlib.Core.List.{List, [], _∷_}
 use mathlib.Core.Option.{Option, none, some}
 use Prim.Native.Nat.{ℕ, _+_, _-_}
 use lib.Dec.{eqb}
 use lib.ListN.{length}
 use Rattle.machine.specs.Registers.{mask, maska, maskb, control0, interrupta, interruptb, interrupt, has, INT-MASK}
-use Rattle.machine.specs.State.{Interrupts, State, reg}
+use Rattle.machine.specs.State.{Interrupts, State, reg, raises}
+use Rattle.machine.specs.Pins.{Readings, readings}
 
 -- ---- capacities
 
@@ -32,6 +33,16 @@ SOFTRST = 0x02
 abbrev pub HARDRST : ℕ
 HARDRST = 0x01
 
+-- Status1a
+abbrev pub RXSOP2DB : ℕ
+RXSOP2DB = 0x04
+
+abbrev pub RXSOP1DB : ℕ
+RXSOP1DB = 0x02
+
+abbrev pub RXSOP : ℕ
+RXSOP = 0x01
+
 -- Interrupta
 abbrev pub I-SOFTFAIL : ℕ
 I-SOFTFAIL = 0x20
@@ -55,12 +66,56 @@ I-HARDRST = 0x01
 abbrev pub I-GCRCSENT : ℕ
 I-GCRCSENT = 0x01
 
+-- Status0
+abbrev pub VBUSOK : ℕ
+VBUSOK = 0x80
+
+abbrev pub COMP : ℕ
+COMP = 0x20
+
+abbrev pub CRC-CHK : ℕ
+CRC-CHK = 0x10
+
+abbrev pub ALERT : ℕ
+ALERT = 0x08
+
+abbrev pub BC-LVL : ℕ
+BC-LVL = 0x03
+
+-- Status1
+abbrev pub RXSOP2 : ℕ
+RXSOP2 = 0x80
+
+abbrev pub RXSOP1 : ℕ
+RXSOP1 = 0x40
+
+abbrev pub RX-EMPTY : ℕ
+RX-EMPTY = 0x20
+
+abbrev pub RX-FULL : ℕ
+RX-FULL = 0x10
+
+abbrev pub TX-EMPTY : ℕ
+TX-EMPTY = 0x08
+
+abbrev pub TX-FULL : ℕ
+TX-FULL = 0x04
+
 -- Interrupt
+abbrev pub I-VBUSOK : ℕ
+I-VBUSOK = 0x80
+
+abbrev pub I-COMP-CHNG : ℕ
+I-COMP-CHNG = 0x20
+
 abbrev pub I-CRC-CHK : ℕ
 I-CRC-CHK = 0x10
 
 abbrev pub I-ALERT : ℕ
 I-ALERT = 0x08
+
+abbrev pub I-BC-LVL : ℕ
+I-BC-LVL = 0x01
 
 -- ---- 3C to 42
 
@@ -81,23 +136,38 @@ isLast k (some j) = eqb j k
 abbrev pub lastIs : State → ℕ → Bool
 lastIs s k = isLast k (s .status .kind)
 
--- SOP''_Debug 04, SOP'_Debug 02, SOP 01
 unfoldable pub status1aOf : State → ℕ
-status1aOf s = flag 0x04 (lastIs s 4) + (flag 0x02 (lastIs s 3) + flag 0x01 (lastIs s 0))
+status1aOf s = flag RXSOP2DB (lastIs s 4) + (flag RXSOP1DB (lastIs s 3) + flag RXSOP (lastIs s 0))
 
--- CRC_CHK 10, ALERT 08
 unfoldable pub status0Of : State → ℕ
-status0Of s = flag 0x10 (s .status .crcChk) + flag 0x08 (rxFull s || txFull s)
+status0Of s =
+    flag VBUSOK (readings s .vbusOk) + (flag COMP (readings s .comp) + (flag CRC-CHK (s .status .crcChk)
+    + (flag ALERT (rxFull s || txFull s) + readings s .bcLvl)))
 
--- SOP'' 80, SOP' 40, RX_EMPTY 20, RX_FULL 10, TX_EMPTY 08, TX_FULL 04
 unfoldable pub status1Of : State → ℕ
 status1Of s =
-    flag 0x80 (lastIs s 2) + (flag 0x40 (lastIs s 1) + (flag 0x20 (eqb (length (s .rx)) 0) + (flag 0x10 (rxFull s)
-    + (flag 0x08 (eqb (length (s .tx)) 0) + flag 0x04 (txFull s)))))
+    flag RXSOP2 (lastIs s 2) + (flag RXSOP1 (lastIs s 1) + (flag RX-EMPTY (eqb (length (s .rx)) 0) + (flag RX-FULL (rxFull s)
+    + (flag TX-EMPTY (eqb (length (s .tx)) 0) + flag TX-FULL (txFull s)))))
 
 -- the registers 3C to 42 in the order of their addresses
 abbrev pub shown : State → List ℕ
 shown s = s .status .status0a ∷ status1aOf s ∷ s .ints .a ∷ s .ints .b ∷ status0Of s ∷ status1Of s ∷ s .ints .main ∷ []
+
+-- ---- interrupts
+
+abbrev pub differ : Bool → Bool → Bool
+differ true b = not b
+differ false b = b
+
+-- each change of what the comparators show has its interrupt (02, A1)
+unfoldable pub changes : Readings → Readings → ℕ
+changes x y =
+    flag I-VBUSOK (differ (x .vbusOk) (y .vbusOk)) + (flag I-COMP-CHNG (differ (x .comp) (y .comp))
+    + flag I-BC-LVL (not (eqb (x .bcLvl) (y .bcLvl))))
+
+-- sets the interrupts of what the comparators show otherwise in t than in s
+abbrev pub reports : State → State → State
+reports s t = raises (changes (readings s) (readings t)) t
 
 -- reading 3E, 3F or 42 clears it
 unfoldable pub clearedAt : ℕ → Interrupts → Interrupts

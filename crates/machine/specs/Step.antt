@@ -1,6 +1,6 @@
 -- One event, and any list of events: the refusal that applies first, else what the event does.
 -- Assumes nothing.
-use mathlib.Core.Bool.{cond}
+use mathlib.Core.Bool.{Bool, cond, _&&_}
 use mathlib.Core.List.{List, [], _∷_, _++_}
 use mathlib.Core.Option.{Option, none, some}
 use Prim.Native.Nat.{ℕ, _-_}
@@ -25,18 +25,18 @@ use Rattle.machine.specs.Registers.{
   PD-RESET,
   SW-RES,
 }
-use Rattle.machine.specs.State.{State, powerUp, cleared, reg, withCells, withTx, withRx, withStatus, withInts, raises}
-use Rattle.machine.specs.Status.{txFull, I-ALERT, shown, clearedAt}
+use Rattle.machine.specs.State.{Pins, State, powerUp, cleared, reg, withCells, withTx, withRx, withStatus, withInts, withPins, raises}
+use Rattle.machine.specs.Status.{txFull, I-ALERT, shown, reports, clearedAt}
 use Rattle.machine.specs.Requests.{Effect, silent, over, start, sendHardReset, hardResetHeard, passes}
 use Rattle.machine.specs.Packets.{onlyIf, hears}
-use Rattle.machine.specs.Events.{Event, write, read, pass, hardReset, packet, Reply, done, value, no}
+use Rattle.machine.specs.Events.{Event, write, read, pass, hardReset, packet, sense, Reply, done, value, no}
 use Rattle.machine.specs.Refusals.{portStart, refusal}
 
 -- ---- writes
 
--- everything as after power-up
+-- everything as after power-up, but the voltages are what they are (02, A1)
 unfoldable pub restored : State → State
-restored s = powerUp
+restored s = withPins (s .pins) powerUp
 
 -- both FIFOs empty, no request, 3C, 3D, CRC_CHK and the RXSOP bits cleared
 unfoldable pub pdReset : State → State
@@ -73,6 +73,15 @@ commands a v s =
 unfoldable pub writes : ℕ → ℕ → State → Effect
 writes a v s = cond (eqb a fifos) (portWritten v s) (commands a v (withCells (stored a v (s .cells)) s))
 
+-- SW_RES in Reset
+unfoldable pub swReset : ℕ → ℕ → Bool
+swReset a v = eqb a reset && has SW-RES v
+
+-- every write but SW_RES reports what it changed in what the comparators show (02, A1)
+unfoldable pub written : ℕ → ℕ → State → Effect
+written a v s =
+    let x = writes a v s in record { state = cond (swReset a v) (x .state) (reports s (x .state)); frames = x .frames }
+
 -- ---- reads
 
 unfoldable pub readValue : ℕ → State → ℕ
@@ -84,15 +93,21 @@ readValue a s =
 unfoldable pub afterRead : ℕ → State → State
 afterRead a s = cond (eqb a fifos) (withRx (drop 1 (s .rx)) s) (withInts (clearedAt a (s .ints)) s)
 
+-- ---- voltages on the pins
+
+unfoldable pub senses : Pins → State → State
+senses p s = reports s (withPins p s)
+
 -- ---- events
 
 -- what an event does that is not refused
 unfoldable pub accepted : State → Event → Effect
-accepted s (write r a v) = writes a v s
+accepted s (write r a v) = written a v s
 accepted s (read r a) = silent (afterRead a s)
 accepted s (pass r n) = passes n (s .request) s
 accepted s (hardReset r) = silent (hardResetHeard s)
 accepted s (packet r k m) = hears k m s
+accepted s (sense r x y z) = silent (senses (record { cc1 = x; cc2 = y; vbus = z }) s)
 
 unfoldable pub replyTo : State → Event → Reply
 replyTo s (write r a v) = done
@@ -100,6 +115,7 @@ replyTo s (read r a) = value (readValue a s)
 replyTo s (pass r n) = done
 replyTo s (hardReset r) = done
 replyTo s (packet r k m) = done
+replyTo s (sense r x y z) = done
 
 pub record Result : Type 0 where
   pub state : State

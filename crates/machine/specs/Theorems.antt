@@ -5,8 +5,9 @@ use mathlib.Core.Bool.{Bool, true, false, not, cond, _&&_, _||_}
 use mathlib.Core.List.{List, [], _∷_, _++_, map}
 use mathlib.Core.Logic.{_↔_, _⊎_}
 use mathlib.Core.Option.{none, some}
-use Prim.Native.Nat.{ℕ, suc, _+_, _*_, _/_, _<_, _≤_}
-use lib.Dec.{leb, eqb}
+use Prim.Native.Nat.{ℕ, suc, _+_, _*_, _/_, _%_, _<_, _≤_}
+use lib.Dec.{ltb, leb, eqb}
+use lib.Bits.{bitAnd}
 use lib.ListN.{length, take, replicate}
 use Rattle.line.specs.Kind.{sopKinds, setOf}
 use Rattle.line.specs.Frame.{Frame, Whole, AllWhole, joined}
@@ -15,16 +16,24 @@ use Rattle.line.specs.Refusal.{Row}
 use Rattle.line.specs.Write.{frameRoom}
 use Rattle.machine.specs.Registers.{
   stored,
+  switches0,
   switches1,
+  measure,
   control0,
   control1,
   control3,
   mask,
+  power,
   reset,
   maska,
   maskb,
+  interrupt,
   fifos,
   has,
+  MEAS-CC2,
+  MEAS-CC1,
+  MEAS-VBUS,
+  PWR2,
   TX-FLUSH,
   TX-START,
   RX-FLUSH,
@@ -32,24 +41,31 @@ use Rattle.machine.specs.Registers.{
   PD-RESET,
   SW-RES,
 }
-use Rattle.machine.specs.State.{Request, State, powerUp, reg, withCells}
+use Rattle.machine.specs.State.{Request, State, powerUp, reg, withCells, withInts, withPins}
 use Rattle.machine.specs.Status.{
   txRoom,
   SOFTFAIL,
   RETRYFAIL,
+  VBUSOK,
+  COMP,
+  BC-LVL,
   I-SOFTFAIL,
   I-RETRYFAIL,
   I-HARDSENT,
   I-TXSENT,
+  I-VBUSOK,
+  I-COMP-CHNG,
   I-CRC-CHK,
+  I-BC-LVL,
+  status0Of,
 }
 use Rattle.machine.specs.Queue.{START, closing, setSymbol, inside, spelt}
 use Rattle.machine.specs.Headers.{GoodCRC, isControl}
 use Rattle.machine.specs.Requests.{wait, hardResetFrame, opened, driverOn, softResetOf, latched}
 use Rattle.machine.specs.Packets.{kindOn, awaited}
-use Rattle.machine.specs.Events.{Event, write, read, pass, packet, Fits, Reply, no, value, onRead}
+use Rattle.machine.specs.Events.{Event, write, read, pass, hardReset, packet, sense, Fits, Reply, done, no, value, onRead}
 use Rattle.machine.specs.Refusals.{starts, table, refusal}
-use Rattle.machine.specs.Step.{Result, step, after, frames, recordOf}
+use Rattle.machine.specs.Step.{Result, swReset, step, after, frames, recordOf}
 use Rattle.machine.specs.Good.{Good}
 
 abbrev pub AllFit : List Event → Type 0
@@ -351,3 +367,103 @@ CommandsNotStored =
     → (has (TX-FLUSH + TX-START) (reg control0 s) ≡ false)
     × ((has RX-FLUSH (reg control1 s) ≡ false)
     × ((has SEND-HARD-RESET (reg control3 s) ≡ false) × (has (PD-RESET + SW-RES) (reg reset s) ≡ false)))
+
+-- ---- 9. What the comparators show, and its interrupts (02, A1)
+
+-- PWR bit 2 and exactly one MEAS_CC, and so many millivolts on its pin
+pub record Measuring (s : State) (v : ℕ) : Type 0 where
+  pub on : has PWR2 (reg power s) ≡ true
+  pub pin :
+      ((has MEAS-CC1 (reg switches0 s) ≡ true) × (has MEAS-CC2 (reg switches0 s) ≡ false) × (s .pins .cc1 ≡ v))
+      ⊎ ((has MEAS-CC1 (reg switches0 s) ≡ false) × (has MEAS-CC2 (reg switches0 s) ≡ true) × (s .pins .cc2 ≡ v))
+
+-- BC_LVL as 40 shows it
+abbrev pub level : State → ℕ
+level s = bitAnd (status0Of s) BC-LVL
+
+-- the MDAC's code: Measure bits 5:0
+abbrev pub code : State → ℕ
+code s = reg measure s % 64
+
+-- what 40 shows, of every state: a threshold that is met exactly counts as above, and one below it is below
+pub record ShownExactly : Type 0 where
+  pub level-0 : (s : State) (v : ℕ) → Measuring s v → v < 200 → level s ≡ 0
+  pub level-1 : (s : State) (v : ℕ) → Measuring s v → 200 ≤ v → v < 660 → level s ≡ 1
+  pub level-2 : (s : State) (v : ℕ) → Measuring s v → 660 ≤ v → v < 1230 → level s ≡ 2
+  pub level-3 : (s : State) (v : ℕ) → Measuring s v → 1230 ≤ v → level s ≡ 3
+  pub comp-cc :
+      (s : State) (v : ℕ) → Measuring s v → has MEAS-VBUS (reg measure s) ≡ false
+      → (has COMP (status0Of s) ≡ true) ↔ (42 * (code s + 1) ≤ v)
+  pub comp-vbus :
+      (s : State) → has PWR2 (reg power s) ≡ true → has MEAS-VBUS (reg measure s) ≡ true
+      → has MEAS-CC1 (reg switches0 s) ≡ false → has MEAS-CC2 (reg switches0 s) ≡ false
+      → (has COMP (status0Of s) ≡ true) ↔ (420 * (code s + 1) ≤ s .pins .vbus)
+  pub vbusok : (s : State) → (has VBUSOK (status0Of s) ≡ true) ↔ (4000 ≤ s .pins .vbus)
+  -- otherwise 0: PWR bit 2 is 0; no MEAS_CC or both; MEAS_VBUS with a MEAS_CC
+  pub off : (s : State) → has PWR2 (reg power s) ≡ false → (level s ≡ 0) × (has COMP (status0Of s) ≡ false)
+  pub not-one :
+      (s : State) → has MEAS-CC1 (reg switches0 s) ≡ has MEAS-CC2 (reg switches0 s)
+      → (level s ≡ 0) × (has MEAS-VBUS (reg measure s) ≡ false → has COMP (status0Of s) ≡ false)
+  pub vbus-and-cc :
+      (s : State) → has MEAS-VBUS (reg measure s) ≡ true
+      → (has MEAS-CC1 (reg switches0 s) || has MEAS-CC2 (reg switches0 s)) ≡ true → has COMP (status0Of s) ≡ false
+
+-- an interrupt of 42 is set if and only if it was set, or the bits of 40 that it reports have changed
+abbrev pub Reported : (interrupt shown : ℕ) → State → State → Type 0
+Reported i m s t = has i (t .ints .main) ≡ (has i (s .ints .main) || not (eqb (bitAnd (status0Of s) m) (bitAnd (status0Of t) m)))
+
+pub record AllReported (s t : State) : Type 0 where
+  pub i-vbusok : Reported I-VBUSOK VBUSOK s t
+  pub i-comp-chng : Reported I-COMP-CHNG COMP s t
+  pub i-bc-lvl : Reported I-BC-LVL BC-LVL s t
+
+abbrev pub pinStatus : ℕ
+pinStatus = VBUSOK + (COMP + BC-LVL)
+
+abbrev pub pinInterrupts : ℕ
+pinInterrupts = I-VBUSOK + (I-COMP-CHNG + I-BC-LVL)
+
+-- events other than writes and voltages on the pins
+abbrev pub isOther : Event → Bool
+isOther (write r a v) = false
+isOther (read r a) = true
+isOther (pass r n) = true
+isOther (hardReset r) = true
+isOther (packet r k m) = true
+isOther (sense r x y z) = false
+
+pub record InterruptsExactly : Type 0 where
+  pub by-pins :
+      (s : State) (room x y z : ℕ) → refusal s (sense room x y z) ≡ none → AllReported s (step s (sense room x y z) .state)
+  pub by-writes :
+      (s : State) (room a v : ℕ) → refusal s (write room a v) ≡ none → swReset a v ≡ false
+      → AllReported s (step s (write room a v) .state)
+  -- no other event changes what is shown, and only a read of 42 its interrupts
+  pub by-no-other :
+      (s : State) (e : Event) → isOther e ≡ true
+      → bitAnd (status0Of (step s e .state)) pinStatus ≡ bitAnd (status0Of s) pinStatus
+  pub kept :
+      (s : State) (e : Event) → isOther e ≡ true → onRead (λ a. eqb a interrupt) e ≡ false
+      → bitAnd (step s e .state .ints .main) pinInterrupts ≡ bitAnd (s .ints .main) pinInterrupts
+  pub cleared : (s : State) (room : ℕ) → frameRoom ≤ room → step s (read room interrupt) .state .ints .main ≡ 0
+
+-- voltages on the pins: nothing leaves, 12 is the one refusal, and nothing changes but the voltages and 42
+pub record PinsAlone (s : State) (room x y z : ℕ) : Type 0 where
+  pub frames : step s (sense room x y z) .frames ≡ []
+  pub reply : step s (sense room x y z) .reply ≡ cond (ltb room frameRoom) (no 12) done
+  pub interrupts : ℕ
+  pub state :
+      frameRoom ≤ room
+      → step s (sense room x y z) .state
+      ≡ withPins (record { cc1 = x; cc2 = y; vbus = z })
+      (withInts (record { a = s .ints .a; b = s .ints .b; main = interrupts }) s)
+
+abbrev pub VoltagesOnly : Type 0
+VoltagesOnly = (s : State) (room x y z : ℕ) → PinsAlone s room x y z
+
+-- SW_RES: power-up in all but the voltages, so that no interrupt bit is set; of what is shown, VBUSOK alone asks for no bit
+abbrev pub SwResKeepsVoltages : Type 0
+SwResKeepsVoltages =
+    (s : State) (room v : ℕ) → frameRoom ≤ room → has SW-RES v ≡ true
+    → let t = step s (write room reset v) .state in
+    (t ≡ withPins (s .pins) powerUp) × (status0Of t ≡ cond (leb 4000 (s .pins .vbus)) VBUSOK 0)

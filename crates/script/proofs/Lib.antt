@@ -3,5 +3,6 @@ pub mod Masks
 pub mod Numbers
 pub mod Octets
 pub mod Lines
+pub mod Voltages
 pub mod Texts
 pub mod Outcomes

@@ -1,7 +1,7 @@
 -- What a line means, from the tests that led to the answer.
 -- Assumes nothing.
 use mathlib.Core.Path.{_≡_, refl, sym, ap, _∙_, subst}
-use mathlib.Core.Bool.{true, false}
+use mathlib.Core.Bool.{Bool, true, false, cond, _&&_}
 use mathlib.Core.List.{List, [], _∷_}
 use mathlib.Core.Option.{Option, none, some}
 use Prim.Native.Nat.{ℕ, _*_, _-_, _<_, _≤_}
@@ -16,12 +16,12 @@ use Rattle.machine.specs.Events.{Event, read, hardReset, packet}
 use Rattle.script.specs.declared.parse.Line.{Line}
 use Rattle.script.specs.declared.parse.Line.the-variants.{Write, Read, HardReset, Packet, Bad}
 use Rattle.script.specs.Text.{fits, octetAt, digitsIn, areOctets, octetsIn}
-use Rattle.script.specs.Parse.{countOf, writeEvent, timed, kindPart, octetPart, packetOf, formOf, eventOf, setupOf, lineOf, packetOctets, Parses}
+use Rattle.script.specs.Parse.{countOf, writeEvent, timed, numberPart, restPart, packetOf, millivoltsOf, isSpaced, nextPart, sensed, voltagesOf, formOf, eventOf, setupOf, lineOf, packetOctets, Parses}
 use Rattle.script.proofs.Masks.{lengths-differ}
 use Rattle.script.proofs.Numbers.{too-few}
 
 -- the code's `&s[n..]`
-rest : (s : List ℕ) (n : ℕ) → take (length s - n) (drop n s) ≡ drop n s
+pub rest : (s : List ℕ) (n : ℕ) → take (length s - n) (drop n s) ≡ drop n s
 rest s n = take-all (length s - n) (drop n s) (rw length-drop (omega arith))
 
 -- an event that was found out
@@ -49,12 +49,12 @@ thirds (s ∷ a ∷ b ∷ l) = let h = thirds l in omega arith
 
 module _ (s before : List ℕ) (n : ℕ) (en : n ≡ digitsIn s) where
   pub no-kind : countOf (take n s) ≡ none → Parses (packetOf s) before Bad before
-  unfolding packetOf kindPart
+  unfolding packetOf numberPart
   no-kind e = out-of-form (rw (← en, e) refl)
 
   module _ (k : ℕ) (e : countOf (take n s) ≡ some k) where
     pub no-octets : areOctets (take (length s - n) (drop n s)) ≡ false → Parses (packetOf s) before Bad before
-    unfolding packetOf kindPart octetPart
+    unfolding packetOf numberPart restPart
     no-octets f = out-of-form (rw (← en, e, rw rest at f) refl)
 
     module _ (few : length s ≤ 253) (room : 84 ≤ length before) (fit : n ≤ length s) where
@@ -64,7 +64,7 @@ module _ (s before : List ℕ) (n : ℕ) (en : n ≡ digitsIn s) where
 
       pub all-heard : (count : ℕ) (after : List ℕ) → areOctets (take (length s - n) (drop n s)) ≡ true → count ≡ length (octetsIn (take (length s - n) (drop n s)))
           → after ≡ sets before 0 (octetsIn (take (length s - n) (drop n s))) → Parses (packetOf s) before (Packet k count) after
-      unfolding packetOf kindPart octetPart
+      unfolding packetOf numberPart restPart
       all-heard count after f m a =
           let h = rw rest at enough in
           let t = thirds (drop n s) in
@@ -73,6 +73,21 @@ module _ (s before : List ℕ) (n : ℕ) (en : n ≡ digitsIn s) where
           (record { says = ap (Packet k) (rw rest at m); leaves = rw rest at a ∙ q })
 
 -- ---- a line of the events
+
+sensed-none : (x y z : Option ℕ) → packetOctets (sensed x y z) ≡ []
+sensed-none none y z = refl
+sensed-none (some x) none z = refl
+sensed-none (some x) (some y) none = refl
+sensed-none (some x) (some y) (some z) = refl
+
+voltages-none : (l : List ℕ) → packetOctets (voltagesOf l) ≡ []
+unfolding voltagesOf
+voltages-none l = go (isSpaced l && isSpaced (nextPart l))
+  where
+    go : (b : Bool)
+        → packetOctets (cond b (sensed (millivoltsOf (numberPart l)) (millivoltsOf (numberPart (nextPart l))) (millivoltsOf (nextPart (nextPart l)))) none) ≡ []
+    go true = sensed-none (millivoltsOf (numberPart l)) (millivoltsOf (numberPart (nextPart l))) (millivoltsOf (nextPart (nextPart l)))
+    go false = refl
 
 timed-none : (x : Option ℕ) → packetOctets (timed x) ≡ []
 timed-none none = refl
@@ -111,7 +126,7 @@ module _ (l before : List ℕ) where
 
           pub tiny : length l < 2 → Parses (eventOf l) before Bad before
           unfolding formOf
-          tiny g = bad (rw (w, r, z, short-line (text "t ") refl g, short-line (text "p ") refl g) refl)
+          tiny g = bad (rw (w, r, z, short-line (text "t ") refl g, short-line (text "p ") refl g, short-line (text "v ") refl g) refl)
 
           pub is-time : (x : Line) → fits (text "t ") (take 2 l) ≡ true → x ≡ lineOf (timed (countOf (take (length l - 2) (drop 2 l)))) → Parses (eventOf l) before x before
           unfolding formOf
@@ -122,9 +137,17 @@ module _ (l before : List ℕ) where
             unfolding formOf
             is-packet x after p e = by (packetOf (take (length l - 2) (drop 2 l))) (rw (w, r, z, t, p, rest l 2) refl) e
 
-            pub other : fits (text "p ") (take 2 l) ≡ false → Parses (eventOf l) before Bad before
-            unfolding formOf
-            other p = bad (rw (w, r, z, t, p) refl)
+            module _ (p : fits (text "p ") (take 2 l) ≡ false) where
+              pub is-sense : (x : Line) → fits (text "v ") (take 2 l) ≡ true → x ≡ lineOf (voltagesOf (take (length l - 2) (drop 2 l)))
+                  → Parses (eventOf l) before x before
+              unfolding formOf
+              is-sense x v e =
+                  by (voltagesOf (drop 2 l)) (rw (w, r, z, t, p, v) refl)
+                  (record { says = rw rest at e; leaves = rw (voltages-none (drop 2 l)) refl })
+
+              pub other : fits (text "v ") (take 2 l) ≡ false → Parses (eventOf l) before Bad before
+              unfolding formOf
+              other v = bad (rw (w, r, z, t, p, v) refl)
 
 -- ---- a line of the setup
 

@@ -7,9 +7,9 @@ use mathlib.Core.Option.{none, some}
 use Rattle.text.specs.Ascii.{text}
 use Rattle.text.specs.Hex.{isHex, hexValue, octetOf, digitOf, hexOf}
 use Rattle.text.specs.Put.{decimalOf, onto, valueOf, spaced, octetsText}
-use Rattle.machine.specs.Events.{write, read, pass, hardReset, packet, done, value, no}
+use Rattle.machine.specs.Events.{write, read, pass, hardReset, packet, sense, done, value, no}
 use Rattle.script.specs.Text.{octetAt, suits, fits, isDigit, allDigits, isDecimal, digitsIn, isOctet, areOctets, octetsIn}
-use Rattle.script.specs.Parse.{countOf, kindPart, octetPart, packetOf, formOf, eventOf, setupOf}
+use Rattle.script.specs.Parse.{countOf, numberPart, restPart, packetOf, millivoltsOf, isSpaced, nextPart, voltagesOf, formOf, eventOf, setupOf}
 use Rattle.script.specs.Print.{replyText, outcomeText, badLineText}
 
 pub in-form :
@@ -21,8 +21,10 @@ pub in-form :
     × (eventOf (text "h") ≡ some (hardReset 73))
     × (eventOf (text "p 0 12 AB") ≡ some (packet 73 0 (0x12 ∷ 0xAB ∷ [])))
     × (eventOf (text "p 12") ≡ some (packet 73 12 []))
-unfolding isHex hexValue octetOf octetAt suits fits isDigit allDigits isDecimal onto valueOf digitsIn isOctet areOctets octetsIn countOf kindPart octetPart packetOf formOf eventOf setupOf
-in-form = (refl, refl, refl, refl, refl, refl, refl, refl)
+    × (eventOf (text "v 0 1230 65535") ≡ some (sense 73 0 1230 65535))
+    × (eventOf (text "v 0000200 7 4000") ≡ some (sense 73 200 7 4000))
+unfolding isHex hexValue octetOf octetAt suits fits isDigit allDigits isDecimal onto valueOf digitsIn isOctet areOctets octetsIn countOf numberPart restPart packetOf millivoltsOf isSpaced nextPart voltagesOf formOf eventOf setupOf
+in-form = (refl, refl, refl, refl, refl, refl, refl, refl, refl, refl)
 
 pub out-of-form :
     (countOf (text "12345678") ≡ none)
@@ -35,10 +37,18 @@ pub out-of-form :
     × (eventOf (text "t 12345678") ≡ none)
     × (eventOf (text "p 0 1") ≡ none)
     × (eventOf (text "p  0") ≡ none)
+    × (eventOf (text "v 65536 0 0") ≡ none)
+    × (eventOf (text "v 0 65536 0") ≡ none)
+    × (eventOf (text "v 0 0 65536") ≡ none)
+    × (eventOf (text "v 1 2") ≡ none)
+    × (eventOf (text "v 1 2 3 4") ≡ none)
+    × (eventOf (text "v 1  2 3") ≡ none)
+    × (eventOf (text "v 1 2 3 ") ≡ none)
+    × (eventOf (text "v 00000001 2 3") ≡ none)
     × (eventOf (text "H") ≡ none)
     × (eventOf (text "") ≡ none)
-unfolding isHex hexValue octetOf octetAt suits fits isDigit allDigits isDecimal onto valueOf digitsIn isOctet areOctets octetsIn countOf kindPart octetPart packetOf formOf eventOf setupOf
-out-of-form = (refl, refl, refl, refl, refl, refl, refl, refl, refl, refl, refl, refl)
+unfolding isHex hexValue octetOf octetAt suits fits isDigit allDigits isDecimal onto valueOf digitsIn isOctet areOctets octetsIn countOf numberPart restPart packetOf millivoltsOf isSpaced nextPart voltagesOf formOf eventOf setupOf
+out-of-form = (refl, refl, refl, refl, refl, refl, refl, refl, refl, refl, refl, refl, refl, refl, refl, refl, refl, refl, refl, refl)
 
 pub printed :
     (outcomeText done true [] ≡ text "ok 1 -\n")

@@ -4,10 +4,11 @@ use text::hex::octet_of;
 ghost use mathlib.Core.Path.{_≡_};
 ghost use mathlib.Core.Bool.{true};
 ghost use Prim.Native.Nat.{_+_, _*_, _-_, _≤_, _<_};
-ghost use lib.ListN.{length};
+ghost use lib.Dec.{eqb};
+ghost use lib.ListN.{length, getD};
 ghost use lib.Seq.{sets};
 ghost use Rattle.script.specs.Text.{octetAt, suits, fits, isDigit, digitsIn, isOctet, areOctets, octetsIn};
-ghost use Rattle.script.specs.Parse.{countOf, timed, packetOf, eventOf, ReadsCount, lineOf, Parses, ParsesSetup};
+ghost use Rattle.script.specs.Parse.{countOf, timed, packetOf, millivoltsOf, sensed, voltagesOf, eventOf, ReadsCount, ReadsMillivolts, lineOf, Parses, ParsesSetup};
 
 // What a line says; a packet's octets stand beside it, at the beginning of those lent.
 pub enum Line {
@@ -16,6 +17,7 @@ pub enum Line {
     Time(u32),
     HardReset,
     Packet { kind: u32, count: usize },
+    Sense(u16, u16, u16),
     Bad,
 }
 
@@ -180,6 +182,66 @@ fn packet(s: &[u8], octets: &mut [u8]) -> Line
     }
 }
 
+// The largest voltage that an event may carry (02, A1).
+const MOST_MILLIVOLTS: u32 = 65535;
+
+fn millivolts(s: &[u8]) -> Number
+    ensures { λ r. ⌜ ReadsMillivolts (now (s .entry)) r ⌝ }
+{
+    match decimal(s) {
+        Number::Is(v) => {
+            if v <= MOST_MILLIVOLTS {
+                return Number::Is(v);
+            }
+            Number::Not
+        }
+        Number::Not => Number::Not,
+    }
+}
+
+// Whether a space stands behind the first `n` characters.
+fn spaced(s: &[u8], n: usize) -> bool
+    requires { ⌜ n ≤ length (now s) ⌝ }
+    ensures { λ r. ⌜ (r ≡ eqb (getD (now (s .entry)) n 0) 0x20) × (r ≡ true → n < length (now (s .entry))) ⌝ }
+{
+    if n == s.len() {
+        return false;
+    }
+    s[n] == b' '
+}
+
+fn three_voltages(cc1: &[u8], cc2: &[u8], vbus: &[u8]) -> Line
+    ensures { λ r. ⌜ r ≡ lineOf (sensed (millivoltsOf (now (cc1 .entry))) (millivoltsOf (now (cc2 .entry))) (millivoltsOf (now (vbus .entry)))) ⌝ }
+{
+    let Number::Is(x) = millivolts(cc1) else {
+        return Line::Bad;
+    };
+    let Number::Is(y) = millivolts(cc2) else {
+        return Line::Bad;
+    };
+    let Number::Is(z) = millivolts(vbus) else {
+        return Line::Bad;
+    };
+    Line::Sense(x as u16, y as u16, z as u16)
+}
+
+// What follows `v `: CC1, CC2 and VBUS.
+fn voltages(s: &[u8]) -> Line
+    ensures { λ r. ⌜ r ≡ lineOf (voltagesOf (now (s .entry))) ⌝ }
+{
+    let n = digits_in(s);
+    if spaced(s, n) {
+        let at = n + 1;
+        let rest = &s[at..];
+        let m = digits_in(rest);
+        if spaced(rest, m) {
+            let last = m + 1;
+            return three_voltages(&s[..n], &rest[..m], &rest[last..]);
+        }
+    }
+    Line::Bad
+}
+
 // A line of the events. 255 characters hold at most 84 octets.
 pub fn parse_event(line: &[u8], octets: &mut [u8; 84]) -> Line
     ensures { λ r. ⌜ Parses (eventOf (now (line .entry))) (now (octets .entry)) r (now (octets .exit)) ⌝ }
@@ -205,6 +267,9 @@ pub fn parse_event(line: &[u8], octets: &mut [u8; 84]) -> Line
     }
     if fits(b"p ", head) {
         return packet(&line[2..], octets);
+    }
+    if fits(b"v ", head) {
+        return voltages(&line[2..]);
     }
     Line::Bad
 }

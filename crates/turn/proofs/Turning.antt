@@ -17,7 +17,7 @@ use Rattle.line.specs.Frame.{joined}
 use Rattle.line.specs.Write.{frameRoom}
 use Rattle.machine.specs.Status.{intLow}
 use Rattle.machine.specs.State.{State}
-use Rattle.machine.specs.Events.{Event, write, read, pass, hardReset, packet, Reply, room}
+use Rattle.machine.specs.Events.{Event, write, read, pass, hardReset, packet, sense, Reply, room}
 use Rattle.machine.specs.Step.{step}
 use Rattle.fusb302.specs.declared.device.Device.{Device}
 use Rattle.fusb302.specs.declared.device.Reply.the-variants.{Done}
@@ -26,9 +26,9 @@ use Rattle.fusb302.specs.View.{view, Asks}
 use Rattle.fusb302.specs.Serves.{replied, overlaid, Serves}
 use Rattle.fusb302.proofs.Serving.{served-symbols}
 use Rattle.script.specs.declared.parse.Line.{Line}
-use Rattle.script.specs.declared.parse.Line.the-variants.{Write, Read, Time, HardReset, Packet, Bad}
+use Rattle.script.specs.declared.parse.Line.the-variants.{Write, Read, Time, HardReset, Packet, Sense, Bad}
 use Rattle.script.specs.Text.{fits, octetAt, areOctets, octetsIn}
-use Rattle.script.specs.Parse.{countOf, writeEvent, timed, octetPart, kindPart, heard, packetOf, formOf, eventOf, setupOf, lineOf, Parses}
+use Rattle.script.specs.Parse.{countOf, writeEvent, timed, restPart, numberPart, heard, packetOf, millivoltsOf, isSpaced, nextPart, sensed, voltagesOf, formOf, eventOf, setupOf, lineOf, Parses}
 use Rattle.script.specs.Print.{outcomeText, badLineText, benchLineRoom, PrintsOutcome, PrintsBad}
 use Rattle.script.proofs.Texts.{short}
 use Rattle.turn.specs.declared.Turned.{Turned}
@@ -55,7 +55,19 @@ heard-roomy (some k) false m = tt
 
 packet-roomy : (l : List ℕ) → Roomy (packetOf l)
 unfolding packetOf
-packet-roomy l = heard-roomy (countOf (kindPart l)) (areOctets (octetPart l)) (octetsIn (octetPart l))
+packet-roomy l = heard-roomy (countOf (numberPart l)) (areOctets (restPart l)) (octetsIn (restPart l))
+
+sensed-roomy : (x y z : Option ℕ) → Roomy (sensed x y z)
+sensed-roomy none y z = tt
+sensed-roomy (some x) none z = tt
+sensed-roomy (some x) (some y) none = tt
+sensed-roomy (some x) (some y) (some z) = refl
+
+voltages-roomy : (l : List ℕ) → Roomy (voltagesOf l)
+unfolding voltagesOf
+voltages-roomy l =
+    either (isSpaced l && isSpaced (nextPart l)) _ _
+    (sensed-roomy (millivoltsOf (numberPart l)) (millivoltsOf (numberPart (nextPart l))) (millivoltsOf (nextPart (nextPart l)))) tt
 
 form-roomy : (l : List ℕ) → Roomy (formOf l)
 unfolding formOf
@@ -64,7 +76,8 @@ form-roomy l =
     (either (fits (text "r ##") l) _ _ refl
     (either (fits (text "h") l) _ _ refl
     (either (fits (text "t ") (take 2 l)) _ _ (timed-roomy (countOf (drop 2 l)))
-    (either (fits (text "p ") (take 2 l)) _ _ (packet-roomy (drop 2 l)) tt))))
+    (either (fits (text "p ") (take 2 l)) _ _ (packet-roomy (drop 2 l))
+    (either (fits (text "v ") (take 2 l)) _ _ (voltages-roomy (drop 2 l)) tt)))))
 
 event-roomy : (l : List ℕ) → Roomy (eventOf l)
 unfolding eventOf
@@ -91,6 +104,7 @@ back (some (packet n k m)) roomy before r after p = (
       (ap₂ (λ (x : ℕ) (l : List ℕ). some (packet x k l)) (sym roomy) (take-at m (drop (length m) before) (length m) refl)),
   rw (p .says, p .leaves) (simp length-append (omega arith)),
 )
+back (some (sense n x y z)) roomy before r after p = (rw (p .says) (ap (λ (m : ℕ). some (sense m x y z)) (sym roomy)), rw (p .says) (omega arith))
 
 module _ (setup : Bool) (l before : List ℕ) (r : Line) (after : List ℕ) (p : Parses (meantBy setup l) before r after) where
   pub parsed-event : eventFor r after ≡ meantBy setup l
@@ -133,6 +147,10 @@ module _ (d : Device) (line : Line) (os before : List ℕ) (long : length before
       → ServesLine (eventFor line os) d before r after
   serves-packet k n e h = as-is (Packet k n) e (lent (λ x. packet x k (take n os)) h)
 
+  pub serves-sense : (x y z : ℕ) → line ≡ Sense x y z → Serves (sense (length before) x y z) d before r after
+      → ServesLine (eventFor line os) d before r after
+  serves-sense x y z e h = as-is (Sense x y z) e (lent (λ n. sense n x y z) h)
+
 pub serves-none : (d : Device) (line : Line) (os before : List ℕ) → line ≡ Bad
     → ServesLine (eventFor line os) d before (record { device = d; reply = Done; count = 0 }) before
 serves-none d line os before e =
@@ -149,6 +167,7 @@ missing-is (Read a) os = refl
 missing-is (Time t) os = refl
 missing-is HardReset os = refl
 missing-is (Packet k n) os = refl
+missing-is (Sense x y z) os = refl
 missing-is Bad os = refl
 
 -- an array stays as long as it was, so frames fit in it

@@ -11,7 +11,7 @@ use Rattle.line.specs.Frame.{Frame, joined}
 use Rattle.line.specs.Write.{frameRoom}
 use Rattle.machine.specs.State.{State}
 use Rattle.machine.specs.Status.{intLow}
-use Rattle.machine.specs.Events.{Event, write, read, pass, hardReset, packet}
+use Rattle.machine.specs.Events.{Event, write, read, pass, hardReset, packet, sense}
 use Rattle.machine.specs.Step.{Result, step}
 use Rattle.fusb302.specs.declared.device.Device.{Device}
 use Rattle.fusb302.specs.declared.device.Reply.the-variants.{Done}
@@ -19,7 +19,7 @@ use Rattle.fusb302.specs.declared.device.Outcome.{Outcome}
 use Rattle.fusb302.specs.View.{view, Asks}
 use Rattle.fusb302.specs.Serves.{overlaid, Serves}
 use Rattle.script.specs.declared.parse.Line.{Line}
-use Rattle.script.specs.declared.parse.Line.the-variants.{Write, Read, Time, HardReset, Packet, Bad}
+use Rattle.script.specs.declared.parse.Line.the-variants.{Write, Read, Time, HardReset, Packet, Sense, Bad}
 use Rattle.script.specs.Parse.{eventOf, setupOf, packetOctets}
 use Rattle.script.specs.Print.{outcomeText, badLineText}
 use Rattle.turn.specs.declared.Turned.{Turned}
@@ -86,6 +86,7 @@ eventFor (Read a) m = some (read frameRoom a)
 eventFor (Time n) m = some (pass frameRoom n)
 eventFor HardReset m = some (hardReset frameRoom)
 eventFor (Packet k n) m = some (packet frameRoom k (take n m))
+eventFor (Sense x y z) m = some (sense frameRoom x y z)
 eventFor Bad m = none
 
 abbrev pub heardOf : Line → ℕ
@@ -94,6 +95,7 @@ heardOf (Read a) = 0
 heardOf (Time n) = 0
 heardOf HardReset = 0
 heardOf (Packet k n) = n
+heardOf (Sense x y z) = 0
 heardOf Bad = 0
 
 abbrev pub isBad : Line → Bool
@@ -102,6 +104,7 @@ isBad (Read a) = false
 isBad (Time n) = false
 isBad HardReset = false
 isBad (Packet k n) = false
+isBad (Sense x y z) = false
 isBad Bad = true
 
 -- the device serves it; none leaves all as it stands

@@ -1,5 +1,6 @@
 // A line of the bench's input, whole: parsed, done by the device, printed.
 use fusb302::Device;
+use fusb302::Millivolts;
 use fusb302::Outcome;
 use fusb302::Reply;
 use script::parse::Line;
@@ -35,6 +36,7 @@ fn is_bad(line: Line) -> bool
         Line::Time(_) => false,
         Line::HardReset => false,
         Line::Packet { kind: _, count: _ } => false,
+        Line::Sense(_, _, _) => false,
         Line::Bad => true,
     }
 }
@@ -59,6 +61,9 @@ fn serve(device: Device, line: Line, octets: &[u8], symbols: &mut [u8]) -> Outco
         Line::Time(microseconds) => device.pass(microseconds, symbols),
         Line::HardReset => device.hear_hard_reset(symbols),
         Line::Packet { kind, count } => device.hear_packet(kind, &octets[..count], symbols),
+        Line::Sense(cc1, cc2, vbus) => {
+            device.sense(Millivolts(cc1), Millivolts(cc2), Millivolts(vbus), symbols)
+        }
         Line::Bad => Outcome {
             device,
             reply: Reply::Done,

@@ -45,7 +45,14 @@ bad-requires : tie.Need-bad-requires
 bad-requires c κs = search needs
 
 same-length : tie.Need-same-length
-same-length c = search needs
+same-length c =
+    let out = c .before .before .before in
+    let line2 = out .before .before in
+    let lent = line2 .before .before .before .before .before in
+    let told = lent .before .before in
+    let left = told .before .before in
+    let line = left .before .before .before in
+    search (needs, line2 .line2 .given, line .line .given)
 
 same-length-2 : tie.Need-same-length-2
 same-length-2 c = search needs

@@ -2,7 +2,7 @@
 use borrow.Author.Needs.{needs}
 use mathlib.Core.Path.{sym}
 use lib.Seq.{length-take-le}
-use Rattle.turn.proofs.Turning.{heard-within, serves-write, serves-read, serves-pass, serves-reset, serves-packet, serves-none}
+use Rattle.turn.proofs.Turning.{heard-within, serves-write, serves-read, serves-pass, serves-reset, serves-packet, serves-sense, serves-none}
 use Rattle.turn.proofs.serve.Statement.{statement}
 use Rattle.turn.proofs.serve.Tie as tie
 
@@ -42,6 +42,12 @@ slice-aggregate-hear-packet c =
 
 hear-packet-requires : tie.Need-hear-packet-requires
 hear-packet-requires c κs = search needs
+
+enum-known-line-5 : tie.Need-enum-known-line-5
+enum-known-line-5 c = search needs
+
+sense-requires : tie.Need-sense-requires
+sense-requires c κs = search needs
 
 enum-told-2 : tie.Need-enum-told-2
 enum-told-2 c = search needs
@@ -101,8 +107,19 @@ returns-5 c =
     let a = begun .args in
     serves-packet (a .device) (a .line) (a .octets .now) (a .symbols .now) (begun .pre .2) _ _ _ _ (told .line4 .given .1) (done .hear-packet .ensures)
 
+same-length-6 : tie.Need-same-length-6
+same-length-6 c = search needs
+
 returns-6 : tie.Need-returns-6
 returns-6 c =
+    let done = c .before .before in
+    let told = done .before .before .before in
+    let begun = told .before .before .before .before in
+    let a = begun .args in
+    serves-sense (a .device) (a .line) (a .octets .now) (a .symbols .now) (begun .pre .2) _ _ _ _ _ (told .line5 .given .1) (done .sense .ensures)
+
+returns-7 : tie.Need-returns-7
+returns-7 c =
     let a = c .before .before .before .before .args in
     serves-none (a .device) (a .line) (a .octets .now) (a .symbols .now) (c .enum-told2 .given .1)
 
@@ -121,6 +138,8 @@ serve-spec =
     enum-known-line-4
     slice-aggregate-hear-packet
     hear-packet-requires
+    enum-known-line-5
+    sense-requires
     enum-told-2
     same-length
     returns
@@ -132,4 +151,6 @@ serve-spec =
     returns-4
     same-length-5
     returns-5
-    returns-6)
+    same-length-6
+    returns-6
+    returns-7)

@@ -1,10 +1,10 @@
--- Each way out is one of the forms, the tests before it having failed: w, r, h, t, p name the places of the tests.
+-- Each way out is one of the forms, the tests before it having failed: w, r, h, t, p, v name the places of the tests.
 use mathlib.Core.Path.{sym, _∙_}
 use native.Mathlib.Omega.{arith}
 use borrow.Author.Needs.{needs}
 use lib.ListN.{length-take}
 use Rattle.script.proofs.Masks.{fits-length}
-use Rattle.script.proofs.Lines.{long, is-write, is-read, is-reset, tiny, is-time, is-packet, other}
+use Rattle.script.proofs.Lines.{long, is-write, is-read, is-reset, tiny, is-time, is-packet, is-sense, other}
 use Rattle.script.proofs.parse.parse_event.Statement.{statement}
 use Rattle.script.proofs.parse.parse_event.Tie as tie
 
@@ -121,15 +121,45 @@ returns-7 c =
     let w = r .before .before .before in
     is-packet _ _ (w .before .before .before .if1 .left) (sym (w .before .fits2 .ensures) ∙ w .if2 .left) (sym (r .before .fits3 .ensures) ∙ r .if3 .left) (sym (h .before .fits4 .ensures) ∙ h .if4 .left) (sym (t .before .fits5 .ensures) ∙ t .if6 .left) _ _ (sym (p .before .fits6 .ensures) ∙ p .if7 .taken) (c .packet .ensures)
 
+slice-aggregate-fits-6 : tie.Need-slice-aggregate-fits-6
+slice-aggregate-fits-6 c = search needs
+
+fits-requires-6 : tie.Need-fits-requires-6
+fits-requires-6 c κs = search needs
+
+sub-voltages : tie.Need-sub-voltages
+sub-voltages c = search needs
+
+part-voltages-start : tie.Need-part-voltages-start
+part-voltages-start c = search needs
+
+part-voltages-end : tie.Need-part-voltages-end
+part-voltages-end c = search needs
+
+voltages-requires : tie.Need-voltages-requires
+voltages-requires c κs = search needs
+
 returns-8 : tie.Need-returns-8
 returns-8 c =
-    let p = c in
+    let v = c .before .before in
+    let p = v .before .before .before in
     let t = p .before .before .before in
     let head = t .before .before in
     let h = head .before .before .before in
     let r = h .before .before .before in
     let w = r .before .before .before in
-    other _ _ (w .before .before .before .if1 .left) (sym (w .before .fits2 .ensures) ∙ w .if2 .left) (sym (r .before .fits3 .ensures) ∙ r .if3 .left) (sym (h .before .fits4 .ensures) ∙ h .if4 .left) (sym (t .before .fits5 .ensures) ∙ t .if6 .left) (sym (p .before .fits6 .ensures) ∙ p .if7 .left)
+    is-sense _ _ (w .before .before .before .if1 .left) (sym (w .before .fits2 .ensures) ∙ w .if2 .left) (sym (r .before .fits3 .ensures) ∙ r .if3 .left) (sym (h .before .fits4 .ensures) ∙ h .if4 .left) (sym (t .before .fits5 .ensures) ∙ t .if6 .left) (sym (p .before .fits6 .ensures) ∙ p .if7 .left) _ (sym (v .before .fits7 .ensures) ∙ v .if8 .taken) (c .voltages .ensures)
+
+returns-9 : tie.Need-returns-9
+returns-9 c =
+    let v = c in
+    let p = v .before .before .before in
+    let t = p .before .before .before in
+    let head = t .before .before in
+    let h = head .before .before .before in
+    let r = h .before .before .before in
+    let w = r .before .before .before in
+    other _ _ (w .before .before .before .if1 .left) (sym (w .before .fits2 .ensures) ∙ w .if2 .left) (sym (r .before .fits3 .ensures) ∙ r .if3 .left) (sym (h .before .fits4 .ensures) ∙ h .if4 .left) (sym (t .before .fits5 .ensures) ∙ t .if6 .left) (sym (p .before .fits6 .ensures) ∙ p .if7 .left) (sym (v .before .fits7 .ensures) ∙ v .if8 .left)
 
 pub parse-event-spec : {M : Type 1} → statement M
 parse-event-spec =
@@ -164,4 +194,11 @@ parse-event-spec =
     part-packet-end
     packet-requires
     returns-7
-    returns-8)
+    slice-aggregate-fits-6
+    fits-requires-6
+    sub-voltages
+    part-voltages-start
+    part-voltages-end
+    voltages-requires
+    returns-8
+    returns-9)

@@ -23,7 +23,11 @@ add-if1 : tie.Need-add-if1
 add-if1 c = search needs
 
 add-if1-2 : tie.Need-add-if1-2
-add-if1-2 c = search needs
+add-if1-2 c =
+    let at-soft-reset = c .before in
+    let at-checked = at-soft-reset .before .before .before in
+    let entry = at-checked .before .before .before .before in
+    search (needs, at-soft-reset .soft-reset .ensures .arranged .rx .room, entry .pre .3)
 
 store-requires : tie.Need-store-requires
 store-requires c κs =

@@ -8,14 +8,14 @@ use Rattle.fusb302.proofs.device.Device.reset_written.Tie as tie
 has-requires : tie.Need-has-requires
 has-requires c κs = search needs
 
-power-up-requires : tie.Need-power-up-requires
-power-up-requires c κs = search needs
+restored-requires : tie.Need-restored-requires
+restored-requires c κs = search needs
 
 done-requires : tie.Need-done-requires
 done-requires c κs = search needs
 
 returns : tie.Need-returns
-returns c = rw (c .done .ensures) (reset-restores (c .before .before .before .before .args .self) _ (sym (c .before .before .before .has .ensures) ∙ c .before .before .if1 .taken) (c .before .power-up .result) (c .before .power-up .ensures))
+returns c = rw (c .done .ensures) (reset-restores (c .before .before .before .before .args .self) _ (sym (c .before .before .before .has .ensures) ∙ c .before .before .if1 .taken) (c .before .restored .result) (c .before .restored .ensures))
 
 has-requires-2 : tie.Need-has-requires-2
 has-requires-2 c κs = search needs
@@ -47,7 +47,7 @@ reset-written-spec =
     tie.close
     (tie.spec
     has-requires
-    power-up-requires
+    restored-requires
     done-requires
     returns
     has-requires-2
