@@ -26,6 +26,7 @@ KINDS = set(range(HARD_RESET + 1))
 RECORDS, FEWEST_OF_EACH = 3_000, 50
 # Too little for the symbols of the long record, even at an octet each.
 LONG, KILOBYTES = 30_000_000, 8_192
+MOST_OF_AN_EMULATOR = 1_048_576
 
 SET = '18 18 18 11'
 RESET = '07 07 07 19'
@@ -211,9 +212,19 @@ def edges(frames, peer):
     return None
 
 
+def within(kilobytes, frames, **more):
+    return answers(['sh', '-c', 'ulimit -v %d && exec "$0"' % kilobytes, frames], 3 * SECONDS, **more)
+
+
+def emulators_memory(frames):
+    """How much an emulator takes for itself, where the program needs one: 0 where a short record is read without."""
+    short, due = RESET.encode(), b'0 5 -\n'
+    return next(more for more in range(0, MOST_OF_AN_EMULATOR, KILOBYTES) if within(KILOBYTES + more, frames, input=short) == due)
+
+
 def little_memory(frames, seed):
     text, due = long_record('long record of seed %d' % seed, LONG)
-    printed = answers(['sh', '-c', 'ulimit -v %d && exec "$0"' % KILOBYTES, frames], 3 * SECONDS, input=text)
+    printed = within(KILOBYTES + emulators_memory(frames), frames, input=text)
     if printed != due:
         yield 'on %d MB of frames with %d kB of memory: %s' % (LONG // 1_000_000, KILOBYTES, unlike(printed, due, 'due'))
 
