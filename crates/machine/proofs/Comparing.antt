@@ -88,30 +88,33 @@ passes-kept n (some q) s = elapses-kept (q .waited + n) q s
 
 -- ---- packets
 
--- an interrupt of another kind
-raised : (m : ℕ) (s : State) → bitAnd m pinInterrupts ≡ 0 → kept (raises m s) ≡ kept s
-raised m s e = ap (λ (x : ℕ). record { cells = s .cells; pins = s .pins; main = x }) (set-other pinInterrupts (s .ints .main) m e)
+-- interrupts of other kinds
+alert-other : (x : ℕ) → bitAnd (bitOr x I-ALERT) pinInterrupts ≡ bitAnd x pinInterrupts
+alert-other x = set-other pinInterrupts x I-ALERT refl
+
+check-other : (x : ℕ) → bitAnd (bitOr x I-CRC-CHK) pinInterrupts ≡ bitAnd x pinInterrupts
+check-other x = set-other pinInterrupts x I-CRC-CHK refl
 
 noted-kept : (k : ℕ) (m : List ℕ) (s : State) → kept (noted k m s) ≡ kept s
-noted-kept k m s = simp (kept-if, either, raised I-CRC-CHK s refl)
+noted-kept k m s = simp (kept-if, either, check-other)
 
 keeps-kept : (k : ℕ) (m : List ℕ) (s : State) → kept (keeps k m s) ≡ kept s
 unfolding keeps
-keeps-kept k m s = simp (kept-if, either, raised I-ALERT s refl)
+keeps-kept k m s = simp (kept-if, either, alert-other)
 
 stores-kept : (k : ℕ) (m : List ℕ) (s : State) → kept (stores k m s .state) ≡ kept s
 unfolding stores
-stores-kept k m s = simp (effect-if, either, keeps-kept)
+stores-kept k m s = simp (effect-if, kept-if, either, keeps-kept)
 
 pub hears-kept : (k : ℕ) (m : List ℕ) (s : State) → kept (hears k m s .state) ≡ kept s
 unfolding hears accepts
-hears-kept k m s = simp (effect-if, either, stores-kept, raised I-ALERT (noted k m s) refl, noted-kept)
+hears-kept k m s = simp (effect-if, kept-if, either, stores-kept, alert-other, check-other, noted-kept)
 
 -- ---- writes
 
 port-kept : (v : ℕ) (s : State) → kept (portWritten v s .state) ≡ kept s
 unfolding portWritten start queues
-port-kept v s = simp (effect-if, kept-if, sent-if, either, raised I-ALERT s refl)
+port-kept v s = simp (effect-if, kept-if, sent-if, either, alert-other)
 
 control0-kept : (v : ℕ) (s : State) → kept (control0Written v s .state) ≡ kept s
 unfolding control0Written start
@@ -140,15 +143,7 @@ commands-kept a v s h = go (eqb a reset) h
     go true e = simp (effect-if, control0-kept, control1-kept, control3-kept, reset-kept v s e, either)
     go false e = simp (effect-if, control0-kept, control1-kept, control3-kept, either)
 
--- a write leaves the voltages, and the interrupts of what is shown
-pub writes-pins : (a v : ℕ) (s : State) → swReset a v ≡ false → writes a v s .state .pins ≡ s .pins
-unfolding writes
-writes-pins a v s h = go (eqb a fifos)
-  where
-    go : (b : Bool) → cond b (portWritten v s) (commands a v (withCells (stored a v (s .cells)) s)) .state .pins ≡ s .pins
-    go true = ap (λ (x : Kept). x .pins) (port-kept v s)
-    go false = ap (λ (x : Kept). x .pins) (commands-kept a v _ h)
-
+-- a write sets none of the interrupts of what is shown but by reporting
 pub writes-main : (a v : ℕ) (s : State) → swReset a v ≡ false
     → bitAnd (writes a v s .state .ints .main) pinInterrupts ≡ bitAnd (s .ints .main) pinInterrupts
 unfolding writes

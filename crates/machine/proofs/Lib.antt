@@ -5,7 +5,7 @@ pub mod Comparing
 pub mod Masking
 pub mod Refusing
 pub mod Checking
-pub mod Sensing
+pub mod Attaching
 pub mod Spelling
 pub mod Blocks
 pub mod Messages

@@ -1,4 +1,4 @@
--- What the comparators show in 40, at and about every threshold, and what 42 reports of it (02, A1).
+-- What attach code waits on: what 40 shows of the pins at and about every threshold, and what 42 reports of it (02, A1).
 -- Assumes nothing.
 use mathlib.Core.Path.{_≡_, refl, sym, ap, ap₂, _∙_}
 use mathlib.Core.Bool.{Bool, true, false, not, cond, _&&_, _||_, and-eq-true-iff, or-false, and-false, true≢false}
