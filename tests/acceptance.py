@@ -4,12 +4,15 @@
     tests/acceptance.py PROGRAM [PROGRAM..]
 
 Each tests/cases/NAME.in is run and what is printed compared with NAME.out, to the last character. A name says its rule.
+README's attach code is one case more.
 """
 import os
+import re
 import subprocess
 import sys
 
-CASES = os.path.join(os.path.dirname(os.path.abspath(__file__)), 'cases')
+ROOT = os.path.dirname(os.path.dirname(os.path.abspath(__file__)))
+CASES = os.path.join(ROOT, 'tests', 'cases')
 SECONDS = 20
 
 
@@ -31,6 +34,17 @@ def cases():
     return {name: [contents(os.path.join(CASES, name + kind)) for kind in ('.in', '.out')] for name in names}
 
 
+def shown_in_readme():
+    """README's attach code, which shows a file of examples/ beside its answers, as a case."""
+    block = contents(os.path.join(ROOT, 'README.md')).decode().split('### Attach code')[1].split('```text\n')[1].split('```')[0]
+    lines = [re.split(' {2,}', line.split('#')[0].strip()) for line in block.splitlines()]
+    text, expected = [''.join(part + '\n' for part in parts).encode() for parts in (
+        [line[0] for line in lines], [line[1] for line in lines if len(line) > 1])]
+    if text != contents(os.path.join(ROOT, 'examples', 'attach.txt')):
+        sys.exit('acceptance: README shows another examples/attach.txt')
+    return text, expected
+
+
 def wrong(program, text, expected):
     """How the program's answer differs from what is expected, or None."""
     try:
@@ -50,7 +64,7 @@ def main():
     programs = sys.argv[1:]
     if not programs:
         sys.exit(__doc__)
-    every, failed = cases(), 0
+    every, failed = {**cases(), "README's attach code": shown_in_readme()}, 0
     for program in programs:
         for name, (text, expected) in every.items():
             found = wrong(program, text, expected)

@@ -3,7 +3,7 @@
 
     tests/code_is_no_voltage.py
 
-Each edit is made on a copy of the crates under target/, and the compiler must say which type it expected and which it found.
+Each edit is made on a copy of the crates under target/, and the compiler must refuse it by the types.
 """
 import os
 import shutil
@@ -17,9 +17,10 @@ EDITS = {
                                    'expected `Millivolts`, found `MdacCode`'),
     'the register for the reference': ('voltage.above(MdacCode::of(measure).on_cc())', 'voltage.above(measure)',
                                        'expected `Millivolts`, found `u8`'),
-    'the register for the code': ('MdacCode::of(measure).on_vbus()', 'measure.on_vbus()', 'on_vbus'),
-    'a voltage for the code': ('MdacCode::of(measure).on_vbus()', 'vbus.on_vbus()', 'on_vbus'),
-    'a bare number for a threshold': ('vbus.above(VBUS_THRESHOLD)', 'vbus.above(4000)', 'expected `Millivolts`'),
+    'the register for the code': ('MdacCode::of(measure).on_vbus()', 'measure.on_vbus()',
+                                  'the method call `.on_vbus()` on type `u8`'),
+    'a voltage for the code': ('MdacCode::of(measure).on_vbus()', 'vbus.on_vbus()', 'no method named `on_vbus` found for type `Millivolts`'),
+    'a bare number for a threshold': ('vbus.above(VBUS_THRESHOLD)', 'vbus.above(4000)', 'expected `Millivolts`, found an integer'),
 }
 
 
@@ -47,7 +48,7 @@ def main():
         code, said = said_of(pins.replace(old, new))
         errors = [line for line in said.splitlines() if 'error[' in line]
         if code == 0 or not errors or expected not in errors[0]:
-            sys.exit('code is no voltage: %s: %s' % (name, errors[0] if errors else 'it compiles'))
+            sys.exit('code is no voltage: %s: %s' % (name, errors[0] if errors else said[-400:]))
     print('code is no voltage: %d programs that take one for the other do not compile' % len(EDITS))
 
 

@@ -26,7 +26,8 @@ static int take(unsigned char *octets, unsigned long count)
     return 1;
 }
 
-void _start(void)
+/* The kernel enters it with the stack aligned as before a call and not as after one. */
+__attribute__((force_align_arg_pointer)) void _start(void)
 {
     unsigned char count, octets[255];
     long wrong = 0;

@@ -1,7 +1,7 @@
 /*
  * The model of the FUSB302B for firmware in C: C11 and POSIX, with fusb302.c beside it.
  *
- * From the project's folder: cc -Iclients/c reset.c clients/c/fusb302.c
+ * From the project's folder: cc -Iclients/c reset.c clients/c/fusb302.c (where the processor is not x86-64, open "./bench")
  *
  *     #include <stdio.h>
  *     #include "fusb302.h"
@@ -102,7 +102,8 @@ fusb302_status fusb302_hear_packet_with_crc(fusb302 *model, uint32_t kind, const
 
 fusb302_status fusb302_hear_hard_reset(fusb302 *model, fusb302_outcome *outcome);
 
-/* The pins are at these voltages from here on, in millivolts. All are 0 at power-up, and SW_RES keeps them. Never refused. */
+/* The pins are at these voltages from here on, in millivolts. All are 0 at power-up, and SW_RES keeps them. Never
+ * refused. C cuts a larger number to 16 bits before the call sees it. */
 fusb302_status fusb302_set_pins(fusb302 *model, uint16_t cc1_mv, uint16_t cc2_mv, uint16_t vbus_mv, fusb302_outcome *outcome);
 
 /*

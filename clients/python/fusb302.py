@@ -1,6 +1,6 @@
 """The model of the FUSB302B for firmware in Python 3, with the standard library alone.
 
-From the project's folder: PYTHONPATH=clients/python python3 reset.py
+From the project's folder: PYTHONPATH=clients/python python3 reset.py (where the processor is not x86-64, open './bench')
 
     from fusb302 import Error, Fusb302
     try:

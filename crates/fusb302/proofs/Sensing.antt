@@ -1,22 +1,22 @@
 -- What the comparators show, from the parts of a device, and the event that gives voltages.
 -- Assumes nothing.
-use mathlib.Core.Path.{_≡_, refl, sym, ap, ap₂, _∙_}
-use mathlib.Core.Bool.{Bool, true, false, not, cond, _&&_, _||_, or-false, and-false}
+use mathlib.Core.Path.{_≡_, refl, sym, ap, _∙_}
+use mathlib.Core.Bool.{Bool, true, false, not, _&&_, _||_, or-false}
 use mathlib.Core.List.{List}
-use mathlib.Core.Option.{Option, none, some}
+use mathlib.Core.Option.{none, some}
 use Prim.Native.Nat.{ℕ, _+_, _<_, _≤_, _^_}
 use native.Mathlib.Omega.{arith}
 use borrow.Author.Tests.{lt-ltb, le-ltb}
 use lib.Bits.{bitAnd}
-use lib.Dec.{leb, eqb}
+use lib.Dec.{eqb}
 use lib.ListN.{length, getD}
 use Rattle.line.specs.Frame.{joined}
 use Rattle.line.specs.Write.{frameRoom}
 use Rattle.machine.specs.Registers.{has, cell, MEAS-CC1, MEAS-CC2, MEAS-VBUS, MDAC, PWR2}
 use Rattle.machine.specs.State as machine
-use Rattle.machine.specs.State.{withPins, raises}
-use Rattle.machine.specs.Pins.{above, levels, ccReference, vbusReference, measured, steps, stepsOf, isAbove, vbusOkOf, bcLvlOf, compOf, readings}
-use Rattle.machine.specs.Pins as shown
+use Rattle.machine.specs.State.{raises}
+use Rattle.machine.specs.Pins.{above, levels, ccReference, vbusReference, measured, steps, vbusOkOf, bcLvlOf, compOf, readings}
+use Rattle.machine.specs.Pins as comparators
 use Rattle.machine.specs.Status.{flag, differ, changes, I-VBUSOK, I-COMP-CHNG, I-BC-LVL}
 use Rattle.machine.specs.Events.{sense}
 use Rattle.machine.specs.Step.{senses, accepted, replyTo}
@@ -125,4 +125,4 @@ module _ (d : Device) (asks : Asks d) (before : List ℕ) where
       serves-yes (sense (length before) (a .0) (b .0) (c .0)) d before asks
       (sense-checks (view d) (length before) (a .0) (b .0) (c .0) ∙ simp (le-ltb (length before) frameRoom room)) (p, (q, r))
       (record { device = t; reply = Done; count = 0 }) before (h .arranged)
-      (h .state ∙ ap (λ (x : shown.Readings). raises (changes x (readings (view (sensing d a b c)))) (view (sensing d a b c))) e) refl refl refl
+      (h .state ∙ ap (λ (x : comparators.Readings). raises (changes x (readings (view (sensing d a b c)))) (view (sensing d a b c))) e) refl refl refl

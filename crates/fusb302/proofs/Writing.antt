@@ -31,7 +31,7 @@ use Rattle.machine.specs.Registers.{
 }
 use Rattle.machine.specs.State as machine
 use Rattle.machine.specs.State.{State, cleared, withCells, withPins, withTx, withRx, withStatus, withRequest, hides, raisesA, raises}
-use Rattle.machine.specs.Pins as machine-pins
+use Rattle.machine.specs.Pins as comparators
 use Rattle.machine.specs.Pins.{readings}
 use Rattle.machine.specs.Status.{txRoom, I-ALERT, I-HARDSENT, changes, reports}
 use Rattle.machine.specs.Queue.{START, spelt}
@@ -287,7 +287,7 @@ module _ (d : Device) (a v : ℕ) (m : ℕ) (masked : m ≡ getD storedBits (a -
       written-by d a v before (done t 0) before m masked (λ (u : State). silent (reports (view d) u)) (is-plain a v (view d) h p q r s)
       (silently _ t
       (record {
-        state = x .state ∙ ap (λ (y : machine-pins.Readings). raises (changes y (readings (view plain))) (view plain)) e;
+        state = x .state ∙ ap (λ (y : comparators.Readings). raises (changes y (readings (view plain))) (view plain)) e;
         arranged = x .arranged;
       })
       before)

@@ -3,8 +3,7 @@
 use mathlib.Core.Option.{Option, none, some}
 use Prim.Native.Nat.{ℕ}
 use Rattle.machine.specs.State as machine
-use Rattle.machine.specs.Pins as shown
-use Rattle.fusb302.specs.declared.pins.Millivolts.{Millivolts}
+use Rattle.machine.specs.Pins as comparators
 use Rattle.fusb302.specs.declared.pins.Pins.{Pins}
 use Rattle.fusb302.specs.declared.pins.Measured.{Measured}
 use Rattle.fusb302.specs.declared.pins.Measured.the-variants.{Pin, Nothing}
@@ -17,5 +16,5 @@ abbrev pub measuredAs : Measured → Option ℕ
 measuredAs (Pin v) = some (v .0)
 measuredAs Nothing = none
 
-abbrev pub shownAs : Readings → shown.Readings
+abbrev pub shownAs : Readings → comparators.Readings
 shownAs x = record { vbusOk = x .«vbus_ok»; comp = x .comp; bcLvl = x .«bc_lvl» }

@@ -33,7 +33,7 @@ ghost use Rattle.fusb302.specs.Serves.{Becomes, Serves};
 pub struct Millivolts(pub u16);
 
 // MDAC in Measure: how many steps the reference lies above its lowest, and no voltage.
-pub(crate) struct MdacCode(pub(crate) u8);
+struct MdacCode(u8);
 
 // The voltages that the comparators are given.
 pub struct Pins {

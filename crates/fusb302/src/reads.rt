@@ -66,17 +66,17 @@ impl Device {
         ensures { λ r. ⌜ r ≡ status0Of (view self) ⌝ }
     {
         let full = either_full(self.rx.len, self.tx.len);
-        let shown = self.readings();
-        flag(VBUSOK, shown.vbus_ok)
-            + flag(COMP, shown.comp)
+        let readings = self.readings();
+        flag(VBUSOK, readings.vbus_ok)
+            + flag(COMP, readings.comp)
             + flag(CRC_CHK, self.status.crc_chk)
             + flag(ALERT, full)
-            + shown.bc_lvl
+            + readings.bc_lvl
     }
 
     // The kinds that 41 shows.
     fn rx_kind(self) -> u8
-        ensures { λ r. ⌜ (r ≡ flag RXSOP2 (lastIs (view self) 2) + flag RXSOP1 (lastIs (view self) 1)) × (r ≤ 0xC0) ⌝ }
+        ensures { λ r. ⌜ (r ≡ flag RXSOP2 (lastIs (view self) 2) + flag RXSOP1 (lastIs (view self) 1)) × (r ≤ RXSOP2 + RXSOP1) ⌝ }
     {
         let kind = self.status.kind;
         match kind {

@@ -2,30 +2,29 @@
 -- Assumes nothing.
 use mathlib.Core.Path.{_≡_, refl, sym, ap, ap₂, _∙_}
 use mathlib.Core.Bool.{Bool, true, false, not, cond, _&&_, _||_, and-eq-true-iff, or-false, and-false, true≢false}
-use mathlib.Core.List.{List, [], _∷_}
-use mathlib.Core.Logic.{_↔_, _⊎_, ⊎-elim}
+use mathlib.Core.List.{[]}
+use mathlib.Core.Logic.{_↔_, ⊎-elim}
 use mathlib.Core.Option.{Option, none, some}
-use Prim.Native.Nat.{ℕ, zero, suc, _+_, _*_, _%_, _<_, _≤_}
+use Prim.Native.Nat.{ℕ, zero, suc, _+_, _*_, _≤_}
 use native.Mathlib.Omega.{arith}
-use borrow.Author.Tests.{eqb-true, eqb-false, eq-eqb, ne-eqb, leb-true, le-leb, lt-leb, le-ltb, lt-ltb}
-use lib.Bits.{bitAnd, bitOr, or-add-and, and-le-l, and-le-r, and-mask}
+use borrow.Author.Tests.{eqb-true, eqb-false, eq-eqb, ne-eqb, leb-true, le-leb, lt-leb, le-ltb}
+use lib.Bits.{bitAnd, bitOr, or-add-and, and-le-r, and-mask}
 use lib.Dec.{ltb, leb, eqb}
 use lib.ListN.{drop}
 use Rattle.line.specs.Refusal.{firstNo}
 use Rattle.line.specs.Write.{frameRoom}
-use Rattle.machine.specs.Registers.{switches0, measure, power, reset, interrupt, fifos, cell, isStored, readOnly, exists, has, MEAS-CC2, MEAS-CC1, MEAS-VBUS, MDAC, PWR2}
+use Rattle.machine.specs.Registers.{switches0, measure, power, reset, interrupt, fifos, cell, isStored, readOnly, exists, has, MEAS-VBUS, MDAC, PWR2}
 use Rattle.machine.specs.State.{Pins, State, powerUp, reg, withRx, withInts, withPins}
 use Rattle.machine.specs.Pins.{above, levels, onePin, measured, steps, stepsOf, bcLvlOf, compOf, Readings, readings}
 use Rattle.machine.specs.Status.{VBUSOK, COMP, CRC-CHK, ALERT, BC-LVL, I-VBUSOK, I-COMP-CHNG, I-BC-LVL, flag, differ, changes, reports, status0Of, rxFull, txFull, clearedAt}
-use Rattle.machine.specs.Requests.{passes, hardResetHeard}
-use Rattle.machine.specs.Packets.{hears}
+use Rattle.machine.specs.Requests.{hardResetHeard}
 use Rattle.machine.specs.Events.{Event, write, read, pass, hardReset, packet, sense, done, no, onRead}
 use Rattle.machine.specs.Refusals.{txStart, portStart, starts, sendsReset, toBeStored, no12, no1, no2, no6, no3, no5, no4, no7, no8, no11, no9, no10, refusal}
-use Rattle.machine.specs.Step.{restored, resetWritten, accepted, replyTo, afterRead, senses, writes, swReset, written, resultOf, step}
-use Rattle.machine.specs.Theorems.{isOther, Measuring, level, code, ShownExactly, pinStatus, pinInterrupts, Reported, AllReported, InterruptsExactly, VoltagesOnly, SwResKeepsVoltages}
+use Rattle.machine.specs.Step.{restored, resetWritten, accepted, replyTo, afterRead, senses, writes, written, resultOf, step}
+use Rattle.machine.specs.Theorems.{isOther, Measuring, bcLvlShown, code, ShownExactly, pinStatus, pinInterrupts, Reported, AllReported, InterruptsExactly, VoltagesOnly, SwResKeepsVoltages}
 use Rattle.machine.proofs.Masks.{and-or, and-assoc}
 use Rattle.machine.proofs.Checking.{sense-checks}
-use Rattle.machine.proofs.Comparing.{Kept, kept, shows-same, passes-kept, hears-kept, writes-main, reset-written}
+use Rattle.machine.proofs.Comparing.{changes-within, Kept, kept, shows-same, passes-kept, hears-kept, writes-main, reset-written}
 
 -- ---- 40 by its bits
 
@@ -95,7 +94,7 @@ module _ (s : State) where
   unfolding part every
   comp-shown = shown-part COMP (λ a b n. flag COMP b) refl refl refl refl
 
-  level-shown : level s ≡ readings s .bcLvl
+  level-shown : bcLvlShown s ≡ readings s .bcLvl
   unfolding part every
   level-shown = shown-part BC-LVL (λ a b n. n) refl refl refl refl
 
@@ -127,7 +126,7 @@ module _ (s : State) where
     unfolding onePin
     one-pin = ⊎-elim (λ h. simp (h .0, h .1, h .2)) (λ h. simp (h .0, h .1, h .2)) (m .pin)
 
-    level-of : level s ≡ steps levels v
+    level-of : bcLvlShown s ≡ steps levels v
     unfolding readings bcLvlOf
     level-of = level-shown s ∙ simp (m .on, one-pin)
 
@@ -276,7 +275,8 @@ voltages-only s room x y z =
     record {
       frames = rw (sense-checks s room x y z) (none-left (ltb room frameRoom));
       reply = rw (sense-checks s room x y z) (answer (ltb room frameRoom));
-      interrupts = reports s (withPins (record { cc1 = x; cc2 = y; vbus = z }) s) .ints .main;
+      reported = changes (readings s) (readings (withPins (record { cc1 = x; cc2 = y; vbus = z }) s));
+      only = changes-within (readings s) (readings (withPins (record { cc1 = x; cc2 = y; vbus = z }) s));
       state = λ enough. rw (sense-checks s room x y z, le-ltb room frameRoom enough) refl;
     }
   where

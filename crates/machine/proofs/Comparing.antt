@@ -1,28 +1,25 @@
 -- What the comparators show: it hangs on Switches0, Measure, Power and the voltages alone, and so do the interrupts that report it.
 -- Assumes nothing.
 use mathlib.Core.Path.{_≡_, refl, sym, ap, _∙_}
-use mathlib.Core.Bool.{Bool, true, false, not, cond, _&&_, _||_}
-use mathlib.Core.List.{List, [], _∷_, _++_}
+use mathlib.Core.Bool.{Bool, true, false, not, cond, _&&_}
+use mathlib.Core.List.{List}
 use mathlib.Core.Option.{Option, none, some}
 use Prim.Native.Nat.{ℕ, _+_, _-_}
 use native.Mathlib.Omega.{arith}
 use borrow.Author.Tests.{eq-eqb}
 use lib.Bits.{bitAnd, bitOr, or-zero-r}
-use lib.Dec.{ltb, eqb}
+use lib.Dec.{eqb}
 use lib.ListN.{getD}
 use lib.Seq.{getD-set-other}
 use Rattle.line.specs.Frame.{Frame}
-use Rattle.line.specs.Crc.{crcRight}
-use Rattle.machine.specs.Registers.{storedBits, cell, has, stored, control0, control1, control3, reset, fifos, TX-FLUSH, TX-START, RX-FLUSH, SEND-HARD-RESET, PD-RESET, SW-RES}
-use Rattle.machine.specs.State.{Phase, message, softReset, Request, Pins, State, reg, withCells, withTx, withRx, withInts, raises}
+use Rattle.machine.specs.Registers.{storedBits, cell, has, stored, control0, control1, control3, reset, fifos, SW-RES}
+use Rattle.machine.specs.State.{Phase, message, softReset, Request, Pins, State, withCells, withInts}
 use Rattle.machine.specs.Pins.{Readings, readings}
-use Rattle.machine.specs.Status.{differ, changes, reports, txFull, rxFull, I-ALERT, I-CRC-CHK}
-use Rattle.machine.specs.Queue.{spelt}
-use Rattle.machine.specs.Headers.{Soft-Reset, isControl}
-use Rattle.machine.specs.Requests.{Effect, silent, sendsIf, over, start, latched, sendHardReset, hardResetHeard, messageFails, softFails, fails, flight, expires, elapses, passes, wait, acknowledged}
-use Rattle.machine.specs.Packets.{kindOn, fitsRx, awaited, repliesTo, rxToken, onlyIf, checks, softResetHeard, noted, keeps, stores, accepts, hears}
-use Rattle.machine.specs.Refusals.{portStart}
+use Rattle.machine.specs.Status.{flag, differ, changes, reports, I-VBUSOK, I-COMP-CHNG, I-ALERT, I-CRC-CHK, I-BC-LVL}
+use Rattle.machine.specs.Requests.{Effect, silent, sendsIf, start, sendHardReset, messageFails, softFails, fails, expires, elapses, passes, wait}
+use Rattle.machine.specs.Packets.{noted, keeps, stores, accepts, hears}
 use Rattle.machine.specs.Step.{pdReset, queues, control0Written, control1Written, control3Written, resetWritten, portWritten, commands, writes, swReset, written}
+use Rattle.machine.specs.Good.{Within}
 use Rattle.machine.specs.Theorems.{pinInterrupts}
 use Rattle.machine.proofs.Masks.{set-other}
 
@@ -35,6 +32,21 @@ same-not false = refl
 changes-none : (x : Readings) → changes x x ≡ 0
 unfolding changes
 changes-none x = simp (same-not, eq-eqb (x .bcLvl) (x .bcLvl) refl)
+
+-- they are among the interrupts of what is shown
+pub changes-within : (x y : Readings) → Within pinInterrupts (changes x y)
+unfolding changes
+changes-within x y = go (differ (x .vbusOk) (y .vbusOk)) (differ (x .comp) (y .comp)) (not (eqb (x .bcLvl) (y .bcLvl)))
+  where
+    go : (a b c : Bool) → Within pinInterrupts (flag I-VBUSOK a + (flag I-COMP-CHNG b + flag I-BC-LVL c))
+    go true true true = refl
+    go true true false = refl
+    go true false true = refl
+    go true false false = refl
+    go false true true = refl
+    go false true false = refl
+    go false false true = refl
+    go false false false = refl
 
 pub reports-nothing : (s t : State) → readings t ≡ readings s → reports s t ≡ t
 reports-nothing s t e =

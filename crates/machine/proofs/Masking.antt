@@ -14,7 +14,7 @@ use lib.Seq.{set-set, set-comm, getD-set-other}
 use Rattle.line.specs.Frame.{Frame}
 use Rattle.machine.specs.Registers.{storedBits, stored, cell, switches0, switches1, measure, control0, control1, control3, mask, power, reset, maska, maskb, fifos, has, TX-FLUSH, PD-RESET, SW-RES}
 use Rattle.machine.specs.State.{Phase, message, softReset, Pins, State, Request, powerUp, withCells, withRx, withInts, withPins, raises}
-use Rattle.machine.specs.Pins.{Readings, readings}
+use Rattle.machine.specs.Pins.{readings}
 use Rattle.machine.specs.Status.{status1aOf, status0Of, status1Of, changes, reports, clearedAt}
 use Rattle.machine.specs.Headers.{Soft-Reset, isControl}
 use Rattle.machine.specs.Requests.{Effect, silent, sendsIf, latched, start, over, acknowledged, sendHardReset, hardResetHeard, messageFails, softFails, fails, expires, elapses, passes}

@@ -103,6 +103,9 @@ within-zero m = and-zero-l m
 pub within-le : (m x : ℕ) → Within m x → x ≤ m
 within-le m x h = omega (arith, and-le-r x m)
 
+pub within-wider : (m n x : ℕ) → Within m x → bitAnd m n ≡ m → Within n x
+within-wider m n x h e = ap (λ (y : ℕ). bitAnd y n) (sym h) ∙ and-assoc x m n ∙ ap (bitAnd x) e ∙ h
+
 -- a bit outside the mask is 0
 pub outside : (m k x : ℕ) → Within m x → bitAnd m k ≡ 0 → bitAnd x k ≡ 0
 outside m k x h e = ap (λ (y : ℕ). bitAnd y k) (sym h) ∙ and-assoc x m k ∙ ap (bitAnd x) e ∙ and-zero-r x

@@ -40,7 +40,7 @@ use Rattle.machine.specs.Refusals.{
   no10,
   refusal,
 }
-use Rattle.machine.specs.Step.{queues, portWritten, writes, accepted, resultOf, step, after, frames}
+use Rattle.machine.specs.Step.{queues, portWritten, accepted, resultOf, step, after, frames}
 use Rattle.machine.specs.Theorems.{AnyMessageSent}
 use Rattle.machine.proofs.Comparing.{port-written}
 use Rattle.machine.proofs.Spelling.{set-four, spelt-of}

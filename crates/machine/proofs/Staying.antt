@@ -36,15 +36,12 @@ use Rattle.machine.specs.Registers.{
   SW-RES,
 }
 use Rattle.machine.specs.State.{Phase, softReset, Request, Pins, State, powerUp, reg, cleared, withCells, withTx, withRx, withInts, withPins, raises}
-use Rattle.machine.specs.Pins.{Readings, readings}
+use Rattle.machine.specs.Pins.{readings}
 use Rattle.machine.specs.Status.{
   txRoom,
   rxRoom,
   txFull,
   rxFull,
-  differ,
-  flag,
-  changes,
   reports,
   clearedAt,
   SOFTFAIL,
@@ -58,11 +55,8 @@ use Rattle.machine.specs.Status.{
   I-SOFTRST,
   I-HARDRST,
   I-GCRCSENT,
-  I-VBUSOK,
-  I-COMP-CHNG,
   I-CRC-CHK,
   I-ALERT,
-  I-BC-LVL,
 }
 use Rattle.machine.specs.Queue.{START, inside, isToken, spelt, isSome, isMessage}
 use Rattle.machine.specs.Headers.{GoodCRC, Soft-Reset, control, twoOctets, messageId, isControl}
@@ -129,9 +123,10 @@ use Rattle.machine.specs.Step.{
   resultOf,
   after,
 }
-use Rattle.machine.specs.Good.{Within, RequestGood, OpenGood, PinsGood, Good}
-use Rattle.machine.specs.Theorems.{AllFit, NoneApplies, StaysGood, AlwaysGood, OneFrame, WholeFrames}
-use Rattle.machine.proofs.Masks.{within-le, cells-at}
+use Rattle.machine.specs.Good.{RequestGood, OpenGood, Good}
+use Rattle.machine.specs.Theorems.{pinInterrupts, AllFit, NoneApplies, StaysGood, AlwaysGood, OneFrame, WholeFrames}
+use Rattle.machine.proofs.Masks.{within-le, within-wider, cells-at}
+use Rattle.machine.proofs.Comparing.{changes-within}
 use Rattle.machine.proofs.Refusing.{first-none-exactly}
 use Rattle.machine.proofs.Spelling.{spelt-whole}
 use Rattle.machine.proofs.Keeping.{
@@ -315,23 +310,8 @@ port-cases false true true m l a b c = (λ e. not-false m c, λ e. let z : _≡_
 port-cases false true false m l a b c = (λ e. let z : _≡_ {A = ℕ} 0 1 = cc in absurd (omega arith), λ e. b)
 port-cases false false st m l a b c = let z : _≡_ {A = ℕ} 0 1 = cc in absurd (omega arith)
 
--- the interrupts of what is shown are among those of 42
-changes-within : (x y : Readings) → Within 0xB9 (changes x y)
-unfolding changes
-changes-within x y = go (differ (x .vbusOk) (y .vbusOk)) (differ (x .comp) (y .comp)) (not (eqb (x .bcLvl) (y .bcLvl)))
-  where
-    go : (a b c : Bool) → Within 0xB9 (flag I-VBUSOK a + (flag I-COMP-CHNG b + flag I-BC-LVL c))
-    go true true true = refl
-    go true true false = refl
-    go true false true = refl
-    go true false false = refl
-    go false true true = refl
-    go false true false = refl
-    go false false true = refl
-    go false false false = refl
-
 reports-good : (s t : State) → Good t → Good (reports s t)
-reports-good s t g = keeps-raises t g _ (changes-within (readings s) (readings t))
+reports-good s t g = keeps-raises t g _ (within-wider pinInterrupts 0xB9 _ (changes-within (readings s) (readings t)) refl)
 
 no-request : (o : Option Request) (tx : List ℕ) → isSome o ≡ false → OpenGood o tx
 no-request none tx e = tt

@@ -3,14 +3,14 @@
 use mathlib.Core.Path.{_≡_}
 use mathlib.Core.List.{List, [], _∷_}
 use mathlib.Core.Option.{Option, none, some}
-use Prim.Native.Nat.{ℕ, _<_, _≤_, _^_}
+use Prim.Native.Nat.{ℕ, _+_, _<_, _≤_, _^_}
 use lib.Bits.{bitAnd}
 use lib.ListN.{length}
 use Rattle.line.specs.Frame.{Frame, Octets}
 use Rattle.line.specs.Kind.{sopKinds}
 use Rattle.machine.specs.Registers.{storedBits}
 use Rattle.machine.specs.State.{Phase, message, softReset, Request, Pins, State}
-use Rattle.machine.specs.Status.{txRoom, rxRoom}
+use Rattle.machine.specs.Status.{txRoom, rxRoom, I-VBUSOK, I-COMP-CHNG, I-CRC-CHK, I-ALERT, I-BC-LVL}
 use Rattle.machine.specs.Queue.{spelt}
 use Rattle.machine.specs.Requests.{wait}
 
@@ -61,6 +61,6 @@ pub record Good (s : State) : Type 0 where
   pub kind : KindGood (s .status .kind)
   pub interrupta : Within 0x3F (s .ints .a)
   pub interruptb : Within 0x01 (s .ints .b)
-  pub interrupt : Within 0xB9 (s .ints .main)
+  pub interrupt : Within (I-VBUSOK + (I-COMP-CHNG + (I-CRC-CHK + (I-ALERT + I-BC-LVL)))) (s .ints .main)
   pub request : OpenGood (s .request) (s .tx)
   pub pins : PinsGood (s .pins)

@@ -7,7 +7,7 @@ use mathlib.Core.Logic.{_↔_, _⊎_}
 use mathlib.Core.Option.{none, some}
 use Prim.Native.Nat.{ℕ, suc, _+_, _*_, _/_, _%_, _<_, _≤_}
 use lib.Dec.{ltb, leb, eqb}
-use lib.Bits.{bitAnd}
+use lib.Bits.{bitAnd, bitOr}
 use lib.ListN.{length, take, replicate}
 use Rattle.line.specs.Kind.{sopKinds, setOf}
 use Rattle.line.specs.Frame.{Frame, Whole, AllWhole, joined}
@@ -378,8 +378,8 @@ pub record Measuring (s : State) (v : ℕ) : Type 0 where
       ⊎ ((has MEAS-CC1 (reg switches0 s) ≡ false) × (has MEAS-CC2 (reg switches0 s) ≡ true) × (s .pins .cc2 ≡ v))
 
 -- BC_LVL as 40 shows it
-abbrev pub level : State → ℕ
-level s = bitAnd (status0Of s) BC-LVL
+abbrev pub bcLvlShown : State → ℕ
+bcLvlShown s = bitAnd (status0Of s) BC-LVL
 
 -- the MDAC's code: Measure bits 5:0
 abbrev pub code : State → ℕ
@@ -387,10 +387,10 @@ code s = reg measure s % 64
 
 -- what 40 shows, of every state: a threshold that is met exactly counts as above, and one below it is below
 pub record ShownExactly : Type 0 where
-  pub level-0 : (s : State) (v : ℕ) → Measuring s v → v < 200 → level s ≡ 0
-  pub level-1 : (s : State) (v : ℕ) → Measuring s v → 200 ≤ v → v < 660 → level s ≡ 1
-  pub level-2 : (s : State) (v : ℕ) → Measuring s v → 660 ≤ v → v < 1230 → level s ≡ 2
-  pub level-3 : (s : State) (v : ℕ) → Measuring s v → 1230 ≤ v → level s ≡ 3
+  pub level-0 : (s : State) (v : ℕ) → Measuring s v → v < 200 → bcLvlShown s ≡ 0
+  pub level-1 : (s : State) (v : ℕ) → Measuring s v → 200 ≤ v → v < 660 → bcLvlShown s ≡ 1
+  pub level-2 : (s : State) (v : ℕ) → Measuring s v → 660 ≤ v → v < 1230 → bcLvlShown s ≡ 2
+  pub level-3 : (s : State) (v : ℕ) → Measuring s v → 1230 ≤ v → bcLvlShown s ≡ 3
   pub comp-cc :
       (s : State) (v : ℕ) → Measuring s v → has MEAS-VBUS (reg measure s) ≡ false
       → (has COMP (status0Of s) ≡ true) ↔ (42 * (code s + 1) ≤ v)
@@ -400,16 +400,16 @@ pub record ShownExactly : Type 0 where
       → (has COMP (status0Of s) ≡ true) ↔ (420 * (code s + 1) ≤ s .pins .vbus)
   pub vbusok : (s : State) → (has VBUSOK (status0Of s) ≡ true) ↔ (4000 ≤ s .pins .vbus)
   -- otherwise 0: PWR bit 2 is 0; no MEAS_CC or both; MEAS_VBUS with a MEAS_CC
-  pub off : (s : State) → has PWR2 (reg power s) ≡ false → (level s ≡ 0) × (has COMP (status0Of s) ≡ false)
+  pub off : (s : State) → has PWR2 (reg power s) ≡ false → (bcLvlShown s ≡ 0) × (has COMP (status0Of s) ≡ false)
   pub not-one :
       (s : State) → has MEAS-CC1 (reg switches0 s) ≡ has MEAS-CC2 (reg switches0 s)
-      → (level s ≡ 0) × (has MEAS-VBUS (reg measure s) ≡ false → has COMP (status0Of s) ≡ false)
+      → (bcLvlShown s ≡ 0) × (has MEAS-VBUS (reg measure s) ≡ false → has COMP (status0Of s) ≡ false)
   pub vbus-and-cc :
       (s : State) → has MEAS-VBUS (reg measure s) ≡ true
       → (has MEAS-CC1 (reg switches0 s) || has MEAS-CC2 (reg switches0 s)) ≡ true → has COMP (status0Of s) ≡ false
 
 -- an interrupt of 42 is set if and only if it was set, or the bits of 40 that it reports have changed
-abbrev pub Reported : (interrupt shown : ℕ) → State → State → Type 0
+abbrev pub Reported : (bit status : ℕ) → State → State → Type 0
 Reported i m s t = has i (t .ints .main) ≡ (has i (s .ints .main) || not (eqb (bitAnd (status0Of s) m) (bitAnd (status0Of t) m)))
 
 pub record AllReported (s t : State) : Type 0 where
@@ -447,16 +447,17 @@ pub record InterruptsExactly : Type 0 where
       → bitAnd (step s e .state .ints .main) pinInterrupts ≡ bitAnd (s .ints .main) pinInterrupts
   pub cleared : (s : State) (room : ℕ) → frameRoom ≤ room → step s (read room interrupt) .state .ints .main ≡ 0
 
--- voltages on the pins: nothing leaves, 12 is the one refusal, and nothing changes but the voltages and 42
+-- voltages on the pins: nothing leaves, 12 is the one refusal, and nothing changes but the voltages and, in 42, bits that report it
 pub record PinsAlone (s : State) (room x y z : ℕ) : Type 0 where
   pub frames : step s (sense room x y z) .frames ≡ []
   pub reply : step s (sense room x y z) .reply ≡ cond (ltb room frameRoom) (no 12) done
-  pub interrupts : ℕ
+  pub reported : ℕ
+  pub only : bitAnd reported pinInterrupts ≡ reported
   pub state :
       frameRoom ≤ room
       → step s (sense room x y z) .state
       ≡ withPins (record { cc1 = x; cc2 = y; vbus = z })
-      (withInts (record { a = s .ints .a; b = s .ints .b; main = interrupts }) s)
+      (withInts (record { a = s .ints .a; b = s .ints .b; main = bitOr (s .ints .main) reported }) s)
 
 abbrev pub VoltagesOnly : Type 0
 VoltagesOnly = (s : State) (room x y z : ℕ) → PinsAlone s room x y z

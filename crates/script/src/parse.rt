@@ -200,7 +200,7 @@ fn millivolts(s: &[u8]) -> Number
 }
 
 // Whether a space stands behind the first `n` characters.
-fn spaced(s: &[u8], n: usize) -> bool
+fn is_spaced(s: &[u8], n: usize) -> bool
     requires { ⌜ n ≤ length (now s) ⌝ }
     ensures { λ r. ⌜ (r ≡ eqb (getD (now (s .entry)) n 0) 0x20) × (r ≡ true → n < length (now (s .entry))) ⌝ }
 {
@@ -230,11 +230,11 @@ fn voltages(s: &[u8]) -> Line
     ensures { λ r. ⌜ r ≡ lineOf (voltagesOf (now (s .entry))) ⌝ }
 {
     let n = digits_in(s);
-    if spaced(s, n) {
+    if is_spaced(s, n) {
         let at = n + 1;
         let rest = &s[at..];
         let m = digits_in(rest);
-        if spaced(rest, m) {
+        if is_spaced(rest, m) {
             let last = m + 1;
             return three_voltages(&s[..n], &rest[..m], &rest[last..]);
         }

@@ -3,11 +3,6 @@ use borrow.Author.Needs.{needs}
 use mathlib.Core.Path.{sym, _∙_}
 use native.Mathlib.Omega.{arith}
 use Rattle.fusb302.proofs.Sensing.{level-pin, level-none, level-off}
-use Rattle.fusb302.proofs.pins.bc_lvl.Reads as reads
-use Rattle.fusb302.proofs.pins.bc_lvl.Lts as lts
-use Rattle.fusb302.proofs.bits.has.Reads as has-reads
-use Rattle.fusb302.proofs.pins.one_pin.Reads as one-pin-reads
-use Rattle.fusb302.proofs.pins.steps.Reads as steps-reads
 use Rattle.fusb302.proofs.pins.bc_lvl.Statement.{statement}
 use Rattle.fusb302.proofs.pins.bc_lvl.Tie as tie
 

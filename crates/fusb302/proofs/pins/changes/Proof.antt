@@ -1,10 +1,6 @@
 -- The sum of what differs.
 use borrow.Author.Needs.{needs}
 use Rattle.fusb302.proofs.Sensing.{changed}
-use Rattle.fusb302.proofs.pins.changes.Reads as reads
-use Rattle.fusb302.proofs.pins.changes.Lts as lts
-use Rattle.fusb302.proofs.bits.flag.Reads as flag-reads
-use Rattle.fusb302.proofs.pins.differ.Reads as differ-reads
 use Rattle.fusb302.proofs.pins.changes.Statement.{statement}
 use Rattle.fusb302.proofs.pins.changes.Tie as tie
 

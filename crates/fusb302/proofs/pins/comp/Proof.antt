@@ -2,14 +2,6 @@
 use borrow.Author.Needs.{needs}
 use mathlib.Core.Path.{sym, _∙_}
 use Rattle.fusb302.proofs.Sensing.{comp-pin, comp-none, comp-vbus, comp-off}
-use Rattle.fusb302.proofs.pins.comp.Reads as reads
-use Rattle.fusb302.proofs.pins.comp.Lts as lts
-use Rattle.fusb302.proofs.bits.has.Reads as has-reads
-use Rattle.fusb302.proofs.pins.MdacCode.of.Reads as of-reads
-use Rattle.fusb302.proofs.pins.MdacCode.on_cc.Reads as on-cc-reads
-use Rattle.fusb302.proofs.pins.Millivolts.above.Reads as above-reads
-use Rattle.fusb302.proofs.pins.one_pin.Reads as one-pin-reads
-use Rattle.fusb302.proofs.pins.vbus_comp.Reads as vbus-comp-reads
 use Rattle.fusb302.proofs.pins.comp.Statement.{statement}
 use Rattle.fusb302.proofs.pins.comp.Tie as tie
 

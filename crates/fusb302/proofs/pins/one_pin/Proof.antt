@@ -2,9 +2,6 @@
 use borrow.Author.Needs.{needs}
 use mathlib.Core.Path.{sym, _∙_}
 use Rattle.machine.specs.Pins.{onePin}
-use Rattle.fusb302.proofs.pins.one_pin.Reads as reads
-use Rattle.fusb302.proofs.pins.one_pin.Lts as lts
-use Rattle.fusb302.proofs.bits.has.Reads as has-reads
 use Rattle.fusb302.proofs.pins.one_pin.Statement.{statement}
 use Rattle.fusb302.proofs.pins.one_pin.Tie as tie
 

@@ -2,10 +2,6 @@
 use borrow.Author.Needs.{needs}
 use native.Mathlib.Omega.{arith}
 use Rattle.fusb302.proofs.Sensing.{three-steps}
-use Rattle.fusb302.proofs.pins.steps.Reads as reads
-use Rattle.fusb302.proofs.pins.steps.Lts as lts
-use Rattle.fusb302.proofs.bits.flag.Reads as flag-reads
-use Rattle.fusb302.proofs.pins.Millivolts.above.Reads as above-reads
 use Rattle.fusb302.proofs.pins.steps.Statement.{statement}
 use Rattle.fusb302.proofs.pins.steps.Tie as tie
 

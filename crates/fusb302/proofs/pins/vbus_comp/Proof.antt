@@ -1,13 +1,6 @@
 -- The two tests, and then the reference of the code.
 use borrow.Author.Needs.{needs}
 use mathlib.Core.Path.{sym, _∙_}
-use mathlib.Core.Path.{ap}
-use Rattle.fusb302.proofs.pins.vbus_comp.Reads as reads
-use Rattle.fusb302.proofs.pins.vbus_comp.Lts as lts
-use Rattle.fusb302.proofs.bits.has.Reads as has-reads
-use Rattle.fusb302.proofs.pins.MdacCode.of.Reads as of-reads
-use Rattle.fusb302.proofs.pins.MdacCode.on_vbus.Reads as on-vbus-reads
-use Rattle.fusb302.proofs.pins.Millivolts.above.Reads as above-reads
 use Rattle.fusb302.proofs.pins.vbus_comp.Statement.{statement}
 use Rattle.fusb302.proofs.pins.vbus_comp.Tie as tie
 

@@ -1,10 +1,6 @@
 -- The count's answer, unless it is too large.
 use borrow.Author.Needs.{needs}
-use Rattle.script.specs.Parse.{ReadsMillivolts}
 use Rattle.script.proofs.Voltages.{low, high, none-there}
-use Rattle.script.proofs.parse.millivolts.Reads as reads
-use Rattle.script.proofs.parse.millivolts.Lts as lts
-use Rattle.script.proofs.parse.decimal.Reads as decimal-reads
 use Rattle.script.proofs.parse.millivolts.Statement.{statement}
 use Rattle.script.proofs.parse.millivolts.Tie as tie
 

@@ -3,9 +3,6 @@ use borrow.Author.Needs.{needs}
 use mathlib.Core.Path.{refl}
 use native.Mathlib.Omega.{arith}
 use Rattle.script.proofs.Voltages.{is-volts, few-volts, no-volts}
-use Rattle.script.proofs.parse.three_voltages.Reads as reads
-use Rattle.script.proofs.parse.three_voltages.Lts as lts
-use Rattle.script.proofs.parse.millivolts.Reads as millivolts-reads
 use Rattle.script.proofs.parse.three_voltages.Statement.{statement}
 use Rattle.script.proofs.parse.three_voltages.Tie as tie
 

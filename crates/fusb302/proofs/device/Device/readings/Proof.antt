@@ -1,11 +1,6 @@
 -- Each of the three from its registers and voltages.
 use borrow.Author.Needs.{needs}
 use Rattle.fusb302.proofs.Sensing.{shows}
-use Rattle.fusb302.proofs.device.Device.readings.Reads as reads
-use Rattle.fusb302.proofs.device.Device.readings.Lts as lts
-use Rattle.fusb302.proofs.pins.Millivolts.above.Reads as above-reads
-use Rattle.fusb302.proofs.pins.bc_lvl.Reads as bc-lvl-reads
-use Rattle.fusb302.proofs.pins.comp.Reads as comp-reads
 use Rattle.fusb302.proofs.device.Device.readings.Statement.{statement}
 use Rattle.fusb302.proofs.device.Device.readings.Tie as tie
 

@@ -1,13 +1,6 @@
 -- What is shown before and now.
 use borrow.Author.Needs.{needs}
-use mathlib.Core.Path.{ap, _∙_}
 use Rattle.machine.specs.Status.{changes}
-use Rattle.fusb302.specs.Sensed.{shownAs}
-use Rattle.fusb302.proofs.device.Device.reports.Reads as reads
-use Rattle.fusb302.proofs.device.Device.reports.Lts as lts
-use Rattle.fusb302.proofs.device.Device.raises.Reads as raises-reads
-use Rattle.fusb302.proofs.device.Device.readings.Reads as readings-reads
-use Rattle.fusb302.proofs.pins.changes.Reads as changes-reads
 use Rattle.fusb302.proofs.device.Device.reports.Statement.{statement}
 use Rattle.fusb302.proofs.device.Device.reports.Tie as tie
 

@@ -1,9 +1,6 @@
 -- A new device, and the voltages of this one.
 use borrow.Author.Needs.{needs}
 use Rattle.fusb302.proofs.Writing.{restores}
-use Rattle.fusb302.proofs.device.Device.restored.Reads as reads
-use Rattle.fusb302.proofs.device.Device.restored.Lts as lts
-use Rattle.fusb302.proofs.device.Device.power_up.Reads as power-up-reads
 use Rattle.fusb302.proofs.device.Device.restored.Statement.{statement}
 use Rattle.fusb302.proofs.device.Device.restored.Tie as tie
 

@@ -2,12 +2,6 @@
 use borrow.Author.Needs.{needs}
 use native.Mathlib.Omega.{arith}
 use Rattle.fusb302.proofs.Sensing.{sense-small, sense-taken}
-use Rattle.fusb302.proofs.device.Device.sense.Reads as reads
-use Rattle.fusb302.proofs.device.Device.sense.Lts as lts
-use Rattle.fusb302.proofs.device.Device.done.Reads as done-reads
-use Rattle.fusb302.proofs.device.Device.readings.Reads as readings-reads
-use Rattle.fusb302.proofs.device.Device.refuse.Reads as refuse-reads
-use Rattle.fusb302.proofs.device.Device.reports.Reads as reports-reads
 use Rattle.fusb302.proofs.device.Device.sense.Statement.{statement}
 use Rattle.fusb302.proofs.device.Device.sense.Tie as tie
 

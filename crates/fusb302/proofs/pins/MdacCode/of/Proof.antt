@@ -2,8 +2,6 @@
 use mathlib.Core.Path.{refl}
 use native.Mathlib.Omega.{arith}
 use lib.Bits.{mask-lt}
-use Rattle.fusb302.proofs.pins.MdacCode.of.Reads as reads
-use Rattle.fusb302.proofs.pins.MdacCode.of.Lts as lts
 use Rattle.fusb302.proofs.pins.MdacCode.of.Statement.{statement}
 use Rattle.fusb302.proofs.pins.MdacCode.of.Tie as tie
 
