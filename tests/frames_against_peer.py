@@ -27,7 +27,8 @@ KINDS = set(range(HARD_RESET + 1))
 RECORDS, FEWEST_OF_EACH = 3_000, 50
 # Too little for the symbols of the long record, even at an octet each.
 LONG, KILOBYTES = 30_000_000, 8_192
-MOST_OF_AN_EMULATOR = 1_048_576
+EMULATED = platform.machine() != 'x86_64'
+PATIENCE = 5 if EMULATED else 1
 
 SET = '18 18 18 11'
 RESET = '07 07 07 19'
@@ -176,7 +177,7 @@ EACH = 'ulimit -t 10; cd "$1" && for record in *; do "$0" $2 <"$record"; [ $? -l
 
 
 def printed_of_each(folder, program, *mode):
-    return answers(['sh', '-c', EACH, program, folder, *mode], 6 * SECONDS, stdin=subprocess.DEVNULL).split(b'=\n')[:-1]
+    return answers(['sh', '-c', EACH, program, folder, *mode], 6 * SECONDS * PATIENCE, stdin=subprocess.DEVNULL).split(b'=\n')[:-1]
 
 
 def damaged_records(frames, peer, seed):
@@ -213,24 +214,13 @@ def edges(frames, peer):
     return None
 
 
-def within(kilobytes, frames, **more):
-    return answers(['sh', '-c', 'ulimit -v %d && exec "$0"' % kilobytes, frames], 3 * SECONDS, **more)
-
-
-def emulators_memory(frames):
-    """How much an emulator takes for itself, where the program needs one: found on a short record."""
-    if platform.machine() == 'x86_64':
-        return 0
-    short, due = RESET.encode(), b'0 5 -\n'
-    sizes = range(0, MOST_OF_AN_EMULATOR, KILOBYTES)
-    return next((more for more in sizes if within(KILOBYTES + more, frames, input=short) == due), MOST_OF_AN_EMULATOR)
-
-
 def little_memory(frames, seed):
+    """A long record, in little memory where no emulator takes its own, which differs from run to run by more than that."""
     text, due = long_record('long record of seed %d' % seed, LONG)
-    printed = within(KILOBYTES + emulators_memory(frames), frames, input=text)
+    limit = 'unlimited' if EMULATED else KILOBYTES
+    printed = answers(['sh', '-c', 'ulimit -v %s && exec "$0"' % limit, frames], 3 * SECONDS * PATIENCE, input=text)
     if printed != due:
-        yield 'on %d MB of frames with %d kB of memory: %s' % (LONG // 1_000_000, KILOBYTES, unlike(printed, due, 'due'))
+        yield 'on %d MB of frames with %s kB of memory: %s' % (LONG // 1_000_000, limit, unlike(printed, due, 'due'))
 
 
 def slow_input(frames):
@@ -289,8 +279,9 @@ def main():
         print('frames against peer: seed %d: %s' % (seed, one))
     if wrong:
         sys.exit(1)
-    print('frames against peer: {:,} frames of {:,} events as the device sent them, {} edges, {} MB in {} kB of memory'.format(
-        sum(kinds.values()), EVENTS, len(EDGES), LONG // 1_000_000, KILOBYTES))
+    print('frames against peer: {:,} frames of {:,} events as the device sent them, {} edges, {} MB in {} of memory'.format(
+        sum(kinds.values()), EVENTS, len(EDGES), LONG // 1_000_000,
+        'any amount' if EMULATED else '%d kB' % KILOBYTES))
     ways = ', '.join('{:,} {}'.format(ends[end], end) for end in sorted(ends))
     print('frames against peer: {:,} records ({}) agree, seed {}, {:.0f} s'.format(RECORDS, ways, seed, time.monotonic() - started))
 
