@@ -20,6 +20,7 @@ import time
 import zlib
 from concurrent.futures import ThreadPoolExecutor
 
+from frames_against_peer import PATIENCE
 from texts import in_form, joined
 
 ROOT = os.path.dirname(os.path.dirname(os.path.abspath(__file__)))
@@ -28,7 +29,8 @@ from fusb302 import Fusb302, NotOpen, Silent  # noqa: E402
 
 MADE = os.path.join(ROOT, 'target', 'tests', 'clients')
 EVENTS, TIMED = 100_000, 10_000
-SECONDS = 60
+# Of the bench alone 3,200 are started by the threads, which takes an emulator about a minute.
+SECONDS = 60 * PATIENCE
 # Time limits of the clients: one that is waited for, and one that no answer should ever meet. A busy machine adds its own.
 SHORT_MS, LONG_MS = 3_000, 20_000
 BUSY = 6
