@@ -127,7 +127,7 @@ module _ (tx : Queue) (rx : Fifo) (x : Status) (no-tx : queued tx ≡ []) (no-rx
               retries = 0;
               soft = false;
               hard = false;
-              resetting = false;
+              resetting = 5;
               sent = 0;
               waited = 0;
             };

@@ -4,7 +4,7 @@ use mathlib.Core.Path.{_≡_, refl, sym, ap, _∙_, subst}
 use mathlib.Core.Bool.{Bool, true, false, cond, _&&_}
 use mathlib.Core.List.{List, [], _∷_, _++_}
 use mathlib.Core.Option.{Option, none, some}
-use Prim.Native.Nat.{ℕ, zero, suc, _+_, _-_, _*_, _/_, _%_, _<_, _≤_}
+use Prim.Native.Nat.{ℕ, zero, suc, _+_, _-_, _<_, _≤_}
 use native.Mathlib.Omega.{arith}
 use borrow.Author.Tests.{lt-ltb, le-ltb, le-leb, lt-leb, leb-true, eq-eqb, ne-eqb}
 use lib.Dec.{eqb}
@@ -14,7 +14,7 @@ use Rattle.line.specs.Crc.{crcRight}
 use Rattle.line.specs.Frame.{Frame, Octets}
 use Rattle.line.specs.Write.{frameRoom}
 use Rattle.machine.specs.Registers.{cell, has, AUTO-CRC, AUTO-PRE}
-use Rattle.machine.specs.Headers.{GoodCRC, Soft-Reset, header, twoOctets, control, messageId, isControl}
+use Rattle.machine.specs.Headers.{GoodCRC, Soft-Reset, control, messageId, isControl}
 use Rattle.machine.specs.State.{State, withRx, withKind, shows, raisesA, raisesB, raises}
 use Rattle.machine.specs.Status.{rxRoom, SOFTRST, I-SOFTRST, I-TXSENT, I-GCRCSENT, I-ALERT}
 use Rattle.machine.specs.Queue.{spelt}
@@ -39,6 +39,7 @@ use Rattle.machine.specs.Packets.{
 }
 use Rattle.machine.specs.Events.{Event, packet}
 use Rattle.machine.specs.Step.{accepted, replyTo}
+use Rattle.machine.proofs.Resetting.{reset-id}
 use Rattle.machine.proofs.Checking.{packet-checks}
 use Rattle.machine.proofs.Spelling.{spelt-exactly}
 use Rattle.fusb302.specs.declared.queue.Message.{Message}
@@ -66,13 +67,6 @@ front (suc (suc n)) [] h = refl
 front (suc (suc n)) (x ∷ []) h = refl
 front (suc (suc n)) (x ∷ (y ∷ l)) h = refl
 
-small-id : (h : ℕ) → h < 512 → (h % 256 + 256 * (h / 256 % 256)) / 512 % 8 ≡ 0
-small-id h lt = omega arith
-
-reset-id : (sw : ℕ) → messageId (twoOctets (header Soft-Reset 0 sw 0)) ≡ 0
-unfolding twoOctets header
-reset-id sw = small-id (13 + (32 * (sw / 16 % 2) + (64 * (sw / 32 % 4) + (256 * (sw / 128 % 2) + 512 * 0)))) (omega arith)
-
 no-answer : (k : ℕ) (m : List ℕ) (o : Option Frame) → isControl GoodCRC m ≡ false → answers k m o ≡ false
 no-answer k m none h = refl
 no-answer k m (some f) h = rw h refl
@@ -87,17 +81,20 @@ module _ (d : Device) (k : ℕ) (m : List ℕ) where
     unfolding awaitedBy
     awaits-other h = rw active (sym (no-answer k m (flight (view d) (asked (d .request))) h))
 
-    pub awaits-reset : isControl GoodCRC m ≡ true → d .request .resetting ≡ true → (b : Bool) → b ≡ (eqb 0 k && eqb 0 (messageId m))
-        → b ≡ awaited k m (view d)
+    pub awaits-reset : isControl GoodCRC m ≡ true → d .request .resetting < sopKinds
+        → (b : Bool) → b ≡ (eqb (d .request .resetting) k && eqb 0 (messageId m)) → b ≡ awaited k m (view d)
     unfolding awaitedBy flightIn
-    awaits-reset h e b p = rw (active, e, h) (p ∙ ap (λ (i : ℕ). eqb 0 k && eqb i (messageId m)) (sym (reset-id (d .request .switches1))))
+    awaits-reset h on b p =
+        let j = d .request .resetting in
+        rw (active, lt-ltb j sopKinds on, h)
+        (p ∙ ap (λ (i : ℕ). eqb j k && eqb i (messageId m)) (sym (reset-id j (asked (d .request)))))
 
-    module _ (resetting : d .request .resetting ≡ false) (r : Message) (is : speltAs r (queued (d .tx)) ≡ spelt (queued (d .tx))) where
+    module _ (sending : sopKinds ≤ d .request .resetting) (r : Message) (is : speltAs r (queued (d .tx)) ≡ spelt (queued (d .tx))) where
       pub awaits-nothing : r ≡ Nothing → false ≡ awaited k m (view d)
       unfolding awaitedBy flightIn
       awaits-nothing e =
           let nothing : none ≡ spelt (queued (d .tx)) = rw e at is in
-          rw (active, resetting, ← nothing) refl
+          rw (active, le-ltb (d .request .resetting) sopKinds sending, ← nothing) refl
 
       pub awaits-message : isControl GoodCRC m ≡ true → (j n : ℕ) → r ≡ Spelt j n → (id : ℕ) → id ≡ messageId (take 2 (drop 5 (d .tx .octets)))
           → (b : Bool) → b ≡ (eqb j k && eqb id (messageId m)) → b ≡ awaited k m (view d)
@@ -107,7 +104,7 @@ module _ (d : Device) (k : ℕ) (m : List ℕ) where
           let many = spelt-exactly (queued (d .tx)) _ .0 s .many in
           let long = length-take (5 + n - 5) (drop 5 (d .tx .octets)) in
           let two : 2 ≤ 5 + n - 5 = omega arith in
-          rw (active, resetting, s, h)
+          rw (active, le-ltb (d .request .resetting) sopKinds sending, s, h)
           (p ∙ ap (λ (i : ℕ). eqb j k && eqb i (messageId m)) (q ∙ sym (front (5 + n - 5) (drop 5 (d .tx .octets)) two)))
 
 -- ---- whether a GoodCRC leaves

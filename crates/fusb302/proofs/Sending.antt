@@ -11,7 +11,7 @@ use lib.ListN.{length, take, drop, length-take, length-drop, length-append}
 use lib.Seq.{take-take}
 use Rattle.line.specs.declared.write.Written.{Written}
 use Rattle.line.specs.declared.write.Written.the-variants.{Sent}
-use Rattle.line.specs.Kind.{kinds}
+use Rattle.line.specs.Kind.{kinds, sopKinds}
 use Rattle.line.specs.Frame.{Frame, Whole, message, alone, symbolsOf, joined}
 use Rattle.line.specs.Refusal.{firstNo}
 use Rattle.line.specs.Write.{frameRoom, wrongLength, writerRows, wrote, lent, Writes}
@@ -81,8 +81,11 @@ module _ (tx : Queue) (r : Message) (is : speltAs r (queued tx) ≡ spelt (queue
       rw (← nothing) (sends-none before)
 
   module _ (k n : ℕ) (e : r ≡ Spelt k n) where
-    by-count : spelt (queued tx) ≡ some (record { kind = k; octets = take n (drop 5 (queued tx)) })
+    pub by-count : spelt (queued tx) ≡ some (record { kind = k; octets = take n (drop 5 (queued tx)) })
     by-count = sym (rw e at is)
+
+    pub spelt-kind : k < sopKinds
+    spelt-kind = spelt-exactly (queued tx) _ .0 by-count .sop
 
     inside : (5 + n ≤ tx .len) × (5 + n ≤ length (tx .octets))
     inside = let c = counted (queued tx) k n by-count in let m = length-take (tx .len) (tx .octets) in (omega arith, omega arith)

@@ -9,19 +9,21 @@ use native.Mathlib.Numerals.{add-one}
 use native.Mathlib.Omega.{arith}
 use borrow.Author.Tests.{lt-ltb, le-ltb}
 use lib.ListN.{length}
+use Rattle.line.specs.Kind.{sopKinds}
 use Rattle.line.specs.Write.{frameRoom}
 use Rattle.machine.specs.State as machine
-use Rattle.machine.specs.State.{State, softReset, withRequest, shows, raisesA}
+use Rattle.machine.specs.State.{Phase, message, softReset, State, withRequest, shows, raisesA}
 use Rattle.machine.specs.Status.{SOFTFAIL, RETRYFAIL, I-SOFTFAIL, I-RETRYFAIL, I-HARDSENT}
+use Rattle.machine.specs.Queue.{spelt}
 use Rattle.machine.specs.Requests.{
   silent,
-  sends,
   hardResetFrame,
   softResetOf,
   flightIn,
   flight,
   over,
   goesOn,
+  softResetFollows,
   messageFails,
   softFails,
   fails,
@@ -32,15 +34,27 @@ use Rattle.machine.specs.Requests.{
 use Rattle.machine.specs.Events.{pass}
 use Rattle.machine.specs.Step.{accepted, replyTo}
 use Rattle.machine.proofs.Checking.{pass-checks}
+use Rattle.fusb302.specs.declared.queue.Queue.{Queue}
+use Rattle.fusb302.specs.declared.queue.Message.{Message}
+use Rattle.fusb302.specs.declared.queue.Message.the-variants.{Spelt, Nothing}
 use Rattle.fusb302.specs.declared.device.Device.{Device}
 use Rattle.fusb302.specs.declared.device.Request.{Request}
 use Rattle.fusb302.specs.declared.device.Reply.the-variants.{Done, No}
 use Rattle.fusb302.specs.declared.device.Outcome.{Outcome}
-use Rattle.fusb302.specs.Queued.{queued}
+use Rattle.fusb302.specs.Queued.{queued, speltAs}
 use Rattle.fusb302.specs.View.{phaseOf, asked, requestOf, view, Arranged, Asks}
 use Rattle.fusb302.specs.Serves.{replied, ifAny, Becomes, Sends, Does, Serves}
 use Rattle.fusb302.proofs.Serving.{serves-no, serves-yes}
+use Rattle.fusb302.proofs.Sending.{by-count, spelt-kind}
 use Rattle.fusb302.proofs.Becoming.{done, itself, and-then, silently, sending, if-sending}
+
+-- ---- the phase of a request
+
+pub phase-reset : (k : ℕ) → k < sopKinds → phaseOf k ≡ softReset k
+phase-reset k h = rw (lt-ltb k sopKinds h) refl
+
+pub phase-message : (k : ℕ) → sopKinds ≤ k → phaseOf k ≡ message
+phase-message k h = rw (le-ltb k sopKinds h) refl
 
 -- ---- a request that goes on
 
@@ -72,17 +86,34 @@ module _ (d t : Device) (before : List ℕ) where
     unfolding messageFails
     message-ends e = rw e (silently _ t failed before)
 
-    pub message-soft : d .request .soft ≡ true → d .request .active ≡ true → (q : Request)
-        → (q .active ≡ d .request .active) × (asked q ≡ goesOn softReset 0 w (asked (d .request)))
-        → (u : Device) → Becomes (withRequest (requestOf q) (view t)) u → (n : ℕ) (after : List ℕ)
-        → Sends (softResetOf (asked (d .request)) ∷ []) before n after
-        → Does (messageFails w (asked (d .request)) (view d)) before (done u n) after
+    -- as the machine's Soft_Reset goes on from there
+    pub message-soft : d .request .soft ≡ true → (r : Outcome) (after : List ℕ)
+        → Does (softResetFollows w (asked (d .request)) (spelt (queued (d .tx))) (view t)) before r after
+        → Does (messageFails w (asked (d .request)) (view d)) before r after
     unfolding messageFails
-    message-soft e active q goes u h n after sent =
+    message-soft e r after h =
+        let on = subst (λ (s : State). Does (softResetFollows w (asked (d .request)) (spelt (queued (d .tx))) s) before r after) (failed .state) h in
         let over-now = raisesA I-RETRYFAIL (shows RETRYFAIL (over (view d))) in
-        let soft = sends (softResetOf (asked (d .request))) (withRequest (some (goesOn softReset 0 w (asked (d .request)))) over-now) in
-        subst (λ (b : Bool). Does (cond b soft (silent over-now)) before (done u n) after) (sym e)
-        (sending _ u (goes-on over-now t failed (d .request) q _ active goes u h) before n after (softResetOf (asked (d .request))) sent)
+        let x = softResetFollows w (asked (d .request)) (spelt (queued (d .tx))) over-now in
+        subst (λ (b : Bool). Does (cond b x (silent over-now)) before r after) (sym e) on
+
+-- ---- the Soft_Reset on the kind of the message that a queue spelt
+
+module _ (d : Device) (arranged : Arranged d) (tx : Queue) (q : Request) (w : ℕ) (before : List ℕ) (m : Message) (is : speltAs m (queued tx) ≡ spelt (queued tx)) where
+  pub follows-nothing : m ≡ Nothing → Does (softResetFollows w (asked q) (spelt (queued tx)) (view d)) before (done d 0) before
+  follows-nothing e =
+      let nothing : none ≡ spelt (queued tx) = rw e at is in
+      rw (← nothing) (silently _ d (itself d arranged) before)
+
+  module _ (k n : ℕ) (e : m ≡ Spelt k n) where
+    pub follows-on : q .active ≡ true → (r : Request) → (r .active ≡ q .active) × (asked r ≡ goesOn (phaseOf k) 0 w (asked q))
+        → (u : Device) → Becomes (withRequest (requestOf r) (view d)) u → (c : ℕ) (after : List ℕ)
+        → Sends (softResetOf k (asked q) ∷ []) before c after → Does (softResetFollows w (asked q) (spelt (queued tx)) (view d)) before (done u c) after
+    follows-on active r goes u h c after sent =
+        let phase = phase-reset k (spelt-kind tx m is k n e) in
+        let now : (r .active ≡ q .active) × (asked r ≡ goesOn (softReset k) 0 w (asked q)) = (goes .0, goes .1 ∙ ap (λ (p : Phase). goesOn p 0 w (asked q)) phase) in
+        rw (by-count tx m is k n e)
+        (sending _ u (goes-on (view d) d (itself d arranged) q r _ active now u h) before c after (softResetOf k (asked q)) sent)
 
 -- ---- a wait that ran out
 
@@ -99,14 +130,14 @@ module _ (d : Device) (w : ℕ) (before : List ℕ) where
       (flight (view d) (asked (d .request))) sent)
 
   -- what was in flight failed
-  pub expires-last : (r : Outcome) (after : List ℕ) → d .request .retries ≤ d .request .sent → (resetting : Bool)
-      → d .request .resetting ≡ resetting → Does (fails (phaseOf resetting) w (asked (d .request)) (view d)) before r after
+  pub expires-last : (r : Outcome) (after : List ℕ) → d .request .retries ≤ d .request .sent → (p : Phase)
+      → phaseOf (d .request .resetting) ≡ p → Does (fails p w (asked (d .request)) (view d)) before r after
       → Does (expires w (asked (d .request)) (view d)) before r after
   unfolding expires
-  expires-last r after last resetting e h =
+  expires-last r after last p e h =
       rw (
         le-ltb (d .request .sent) (d .request .retries) last,
-        ap (λ x. fails (phaseOf x) w (asked (d .request)) (view d)) e,
+        ap (λ (x : Phase). fails x w (asked (d .request)) (view d)) e,
       )
       h
 

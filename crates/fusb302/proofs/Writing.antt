@@ -94,7 +94,7 @@ latching d retries soft hard =
       retries = retries;
       soft = soft;
       hard = hard;
-      resetting = false;
+      resetting = 5;
       sent = 0;
       waited = 0;
     }

@@ -1,9 +1,12 @@
 -- The state of the machine that a device stands for, and which devices events lead to.
 -- Assumes nothing.
 use mathlib.Core.Path.{_≡_}
-use mathlib.Core.Bool.{Bool, true, false, not, cond}
+use mathlib.Core.Bool.{Bool, not, cond}
 use mathlib.Core.Option.{Option, none, some}
+use Prim.Native.Nat.{ℕ}
+use lib.Dec.{ltb}
 use lib.ListN.{length}
+use Rattle.line.specs.Kind.{sopKinds}
 use Rattle.machine.specs.State as machine
 use Rattle.machine.specs.State.{Phase, message, softReset, State, powerUp}
 use Rattle.machine.specs.Status.{intLow}
@@ -16,9 +19,9 @@ use Rattle.fusb302.specs.Queued.{queued, Kept, sopKind}
 use Rattle.fusb302.specs.Held.{held, Sound}
 use Rattle.fusb302.specs.Sensed.{pinsOf}
 
-abbrev pub phaseOf : Bool → Phase
-phaseOf true = softReset
-phaseOf false = message
+-- what a request sends, by its number: a Soft_Reset on that SOP kind, or where it is none its message
+abbrev pub phaseOf : ℕ → Phase
+phaseOf k = cond (ltb k sopKinds) (softReset k) message
 
 -- what a request asks for, if it is open
 abbrev pub asked : Request → machine.Request

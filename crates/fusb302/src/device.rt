@@ -15,8 +15,8 @@ ghost use Rattle.fusb302.specs.Serves.{Becomes};
 // The longest frame (01, 'Numbers of no', 12).
 pub(crate) const FRAME_ROOM: usize = 73;
 
-// What stands for no kind in the status.
-const NO_KIND: u8 = 5;
+// What stands for no kind, in the status and in a request.
+pub(crate) const NO_KIND: u8 = 5;
 
 pub struct Status {
     pub(crate) status0a: u8,
@@ -30,14 +30,14 @@ pub struct Ints {
     pub(crate) main: u8,
 }
 
-// The open request, if `active`: what its start latched, whether its Soft_Reset is in flight, and how far it has come.
+// The open request, if `active`: what its start latched, the kind that its Soft_Reset is in flight on, if it is, and how far it has come.
 pub struct Request {
     pub(crate) active: bool,
     pub(crate) switches1: u8,
     pub(crate) retries: u8,
     pub(crate) soft: bool,
     pub(crate) hard: bool,
-    pub(crate) resetting: bool,
+    pub(crate) resetting: u8,
     pub(crate) sent: u8,
     pub(crate) waited: u16,
 }
@@ -93,7 +93,7 @@ impl Ints {
 
 impl Request {
     // The same request in another phase, with another count of retries and wait.
-    pub(crate) fn goes_on(mut self, resetting: bool, sent: u8, waited: u16) -> Request
+    pub(crate) fn goes_on(mut self, resetting: u8, sent: u8, waited: u16) -> Request
         ensures { λ r. ⌜ (r .active ≡ self .active) × (asked r ≡ goesOn (phaseOf resetting) sent waited (asked self)) ⌝ }
     {
         self.resetting = resetting;
@@ -145,7 +145,7 @@ impl Device {
                 retries: 0,
                 soft: false,
                 hard: false,
-                resetting: false,
+                resetting: NO_KIND,
                 sent: 0,
                 waited: 0,
             },

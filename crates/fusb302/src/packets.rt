@@ -18,6 +18,7 @@ use crate::bits::driver_on;
 use crate::bits::has;
 use crate::device::Device;
 use crate::device::FRAME_ROOM;
+use crate::device::NO_KIND;
 use crate::device::Outcome;
 use crate::fifo::Fifo;
 use crate::header::GOOD_CRC;
@@ -25,7 +26,6 @@ use crate::header::SOFT_RESET;
 use crate::header::is_control;
 use crate::header::message_id;
 use crate::queue::Message;
-use crate::send::SOP;
 use crate::send::put_control;
 use line::crc::right;
 ghost use mathlib.Core.Path.{_≡_};
@@ -90,8 +90,8 @@ impl Device {
     {
         if self.request.active {
             if is_control(GOOD_CRC, packet) {
-                if self.request.resetting {
-                    return answers(SOP, 0, kind, packet);
+                if self.request.resetting < NO_KIND {
+                    return answers(self.request.resetting, 0, kind, packet);
                 }
                 let tx = self.tx;
                 match tx.message() {

@@ -14,11 +14,13 @@ use crate::bits::has;
 use crate::bits::retries_of;
 use crate::device::Device;
 use crate::device::FRAME_ROOM;
+use crate::device::NO_KIND;
 use crate::device::Outcome;
 use crate::device::Request;
 use crate::header::SOFT_RESET;
+use crate::queue::Message;
+use crate::queue::Queue;
 use crate::send::HARD_RESET;
-use crate::send::SOP;
 use crate::send::put;
 use crate::send::put_control;
 use crate::send::put_message;
@@ -28,9 +30,10 @@ ghost use Prim.Native.Nat.{_≤_};
 ghost use lib.ListN.{length};
 ghost use Rattle.line.specs.Frame.{Octets};
 ghost use Rattle.line.specs.Write.{frameRoom};
-ghost use Rattle.machine.specs.Requests.{flightIn, start, messageFails, softFails, expires};
+ghost use Rattle.machine.specs.Queue.{spelt};
+ghost use Rattle.machine.specs.Requests.{flightIn, start, softResetFollows, messageFails, softFails, expires};
 ghost use Rattle.machine.specs.Events.{pass, hardReset};
-ghost use Rattle.fusb302.specs.Queued.{queued};
+ghost use Rattle.fusb302.specs.Queued.{queued, Kept};
 ghost use Rattle.fusb302.specs.View.{phaseOf, asked, view, Arranged, Asks};
 ghost use Rattle.fusb302.specs.Serves.{ifAny, Sends, Does, Serves};
 
@@ -55,7 +58,7 @@ impl Device {
             retries: retries_of(cells[CONTROL3]),
             soft: has(AUTO_SOFTRESET, cells[CONTROL3]),
             hard: has(AUTO_HARDRESET, cells[CONTROL3]),
-            resetting: false,
+            resetting: NO_KIND,
             sent: 0,
             waited: 0,
         };
@@ -70,8 +73,9 @@ impl Device {
         requires { ⌜ Arranged self × Octets (queued (self .tx)) × (frameRoom ≤ length (now symbols)) ⌝ }
         ensures { λ r. ⌜ Sends (ifAny (flightIn (phaseOf (self .request .resetting)) (asked (self .request)) (queued (self .tx)))) (now (symbols .entry)) r (now (symbols .exit)) ⌝ }
     {
-        if self.request.resetting {
-            return put_control(SOFT_RESET, SOP, self.request.switches1, 0, symbols);
+        let request = self.request;
+        if request.resetting < NO_KIND {
+            return put_control(SOFT_RESET, request.resetting, request.switches1, 0, symbols);
         }
         let tx = self.tx;
         put_message(tx, symbols)
@@ -90,6 +94,26 @@ impl Device {
         failed.done(0)
     }
 
+    // The Soft_Reset follows, on the kind of the message that the queue spelt (02, A2).
+    fn soft_reset_follows(
+        self,
+        tx: Queue,
+        request: Request,
+        waited: u16,
+        symbols: &mut [u8],
+    ) -> Outcome
+        requires { ⌜ Arranged self × Kept tx × (request .active ≡ true) × (frameRoom ≤ length (now symbols)) ⌝ }
+        ensures { λ r. ⌜ Does (softResetFollows waited (asked request) (spelt (queued tx)) (view self)) (now (symbols .entry)) r (now (symbols .exit)) ⌝ }
+    {
+        match tx.message() {
+            Message::Spelt { kind, count: _ } => {
+                let count = put_control(SOFT_RESET, kind, request.switches1, 0, symbols);
+                self.requests(request.goes_on(kind, 0, waited)).done(count)
+            }
+            Message::Nothing => self.done(0),
+        }
+    }
+
     // The message failed: a Soft_Reset follows if that was latched.
     fn message_fails(self, waited: u16, symbols: &mut [u8]) -> Outcome
         requires { ⌜ Arranged self × (self .request .active ≡ true) × (frameRoom ≤ length (now symbols)) ⌝ }
@@ -98,10 +122,8 @@ impl Device {
         let failed = self.over().shows(RETRYFAIL).raises_a(I_RETRYFAIL);
         let request = self.request;
         if request.soft {
-            let count = put_control(SOFT_RESET, SOP, request.switches1, 0, symbols);
-            return failed
-                .requests(request.goes_on(true, 0, waited))
-                .done(count);
+            let tx = self.tx;
+            return failed.soft_reset_follows(tx, request, waited, symbols);
         }
         failed.done(0)
     }
@@ -117,7 +139,7 @@ impl Device {
             let again = request.goes_on(request.resetting, request.sent + 1, waited);
             return self.requests(again).done(count);
         }
-        if request.resetting {
+        if request.resetting < NO_KIND {
             return self.soft_fails(symbols);
         }
         self.message_fails(waited, symbols)

@@ -15,9 +15,7 @@ ghost use Rattle.machine.specs.Headers.{control};
 ghost use Rattle.fusb302.specs.Queued.{queued, Kept};
 ghost use Rattle.fusb302.specs.Serves.{ifAny, Sends};
 
-// Kinds (01, 'Line code (PD)', table).
-pub(crate) const SOP: u8 = 0;
-
+// The kind of a Hard Reset (01, 'Line code (PD)', table).
 pub(crate) const HARD_RESET: u8 = 5;
 
 // Writes a whole frame; the number of its symbols.

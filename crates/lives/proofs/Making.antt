@@ -1,7 +1,7 @@
 -- For every good state of the machine there is a device that stands for it, and so an outcome of every call.
 -- Assumes nothing.
 use mathlib.Core.Path.{_≡_, refl, sym, ap, subst}
-use mathlib.Core.Bool.{Bool, true, false}
+use mathlib.Core.Bool.{true, false}
 use mathlib.Core.List.{List, [], _∷_, _++_}
 use mathlib.Core.Option.{Option, none, some}
 use Prim.Native.Nat.{ℕ, suc, _-_, _≤_}
@@ -19,7 +19,7 @@ use Rattle.machine.specs.Queue.{toCome}
 use Rattle.machine.specs.Events.{Event, Fits}
 use Rattle.machine.specs.Refusals.{refusal}
 use Rattle.machine.specs.Step.{resultOf, step, accepted, replyTo}
-use Rattle.machine.specs.Good.{AllWithin, KindGood, Good}
+use Rattle.machine.specs.Good.{AllWithin, KindGood, PhaseGood, OpenGood, Good}
 use Rattle.machine.proofs.Keeping.{power-up-good}
 use Rattle.machine.proofs.Staying.{stays-good}
 use Rattle.fusb302.specs.declared.device.Status.{Status}
@@ -31,6 +31,7 @@ use Rattle.fusb302.specs.Queued.{sopKind}
 use Rattle.fusb302.specs.View.{phaseOf, requestOf, view, Arranged, Asks, PoweredUp}
 use Rattle.fusb302.specs.Serves.{overlaid}
 use Rattle.fusb302.proofs.Serving.{serves-no, serves-yes}
+use Rattle.fusb302.proofs.Waiting.{phase-reset}
 use Rattle.fusb302.proofs.Outcomes.{replyOf, meant-back}
 use Rattle.lives.specs.Theorems.{Answered}
 
@@ -40,13 +41,13 @@ use Rattle.lives.specs.Theorems.{Answered}
 padded : ℕ → List ℕ → List ℕ
 padded n l = l ++ replicate (n - length l) 0
 
-isReset : Phase → Bool
-isReset message = false
-isReset softReset = true
+resetOn : Phase → ℕ
+resetOn message = sopKinds
+resetOn (softReset k) = k
 
 requestFor : Option machine.Request → Request
 requestFor none =
-    record { active = false; switches1 = 0; retries = 0; soft = false; hard = false; resetting = false; sent = 0; waited = 0 }
+    record { active = false; switches1 = 0; retries = 0; soft = false; hard = false; resetting = sopKinds; sent = 0; waited = 0 }
 requestFor (some q) =
     record {
       active = true;
@@ -54,7 +55,7 @@ requestFor (some q) =
       retries = q .retries;
       soft = q .soft;
       hard = q .hard;
-      resetting = isReset (q .phase);
+      resetting = resetOn (q .phase);
       sent = q .sent;
       waited = q .waited;
     }
@@ -81,15 +82,15 @@ padded-back : (n : ℕ) (l : List ℕ) → take (length l) (padded n l) ≡ l
 unfolding padded
 padded-back n l = take-append-seam l (replicate (n - length l) 0)
 
-phase-back : (p : Phase) → phaseOf (isReset p) ≡ p
-unfolding isReset
-phase-back message = refl
-phase-back softReset = refl
+phase-back : (p : Phase) (tx : List ℕ) → PhaseGood p tx → phaseOf (resetOn p) ≡ p
+unfolding resetOn
+phase-back message tx g = refl
+phase-back (softReset k) tx g = phase-reset k (g .0)
 
-request-back : (o : Option machine.Request) → requestOf (requestFor o) ≡ o
+request-back : (o : Option machine.Request) (tx : List ℕ) → OpenGood o tx → requestOf (requestFor o) ≡ o
 unfolding requestFor
-request-back none = refl
-request-back (some q) = rw (phase-back (q .phase)) refl
+request-back none tx g = refl
+request-back (some q) tx g = rw (phase-back (q .phase) tx (g .phase)) refl
 
 kind-back : (o : Option ℕ) → KindGood o → sopKind (kindFor o) ≡ o
 unfolding kindFor
@@ -99,7 +100,7 @@ kind-back (some k) g = rw (lt-ltb k sopKinds g) refl
 made-back : (s : State) → Good s → view (made s) ≡ s
 unfolding made
 made-back s g =
-    rw (padded-back txRoom (s .tx), padded-back rxRoom (s .rx), kind-back (s .status .kind) (g .kind), request-back (s .request)) refl
+    rw (padded-back txRoom (s .tx), padded-back rxRoom (s .rx), kind-back (s .status .kind) (g .kind), request-back (s .request) (s .tx) (g .request)) refl
 
 padded-length : (n : ℕ) (l : List ℕ) → length l ≤ n → length (padded n l) ≡ n
 unfolding padded

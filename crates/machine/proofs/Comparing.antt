@@ -16,7 +16,7 @@ use Rattle.machine.specs.Registers.{storedBits, cell, has, stored, contr
 use Rattle.machine.specs.State.{Phase, message, softReset, Request, Pins, State, withCells, withInts}
 use Rattle.machine.specs.Pins.{Readings, readings}
 use Rattle.machine.specs.Status.{flag, differ, changes, reports, I-VBUSOK, I-COMP-CHNG, I-ALERT, I-CRC-CHK, I-BC-LVL}
-use Rattle.machine.specs.Requests.{Effect, silent, sendsIf, start, sendHardReset, messageFails, softFails, fails, expires, elapses, passes, wait}
+use Rattle.machine.specs.Requests.{Effect, silent, sendsIf, start, sendHardReset, softResetFollows, messageFails, softFails, fails, expires, elapses, passes, wait}
 use Rattle.machine.specs.Packets.{noted, keeps, stores, accepts, hears}
 use Rattle.machine.specs.Step.{pdReset, queues, control0Written, control1Written, control3Written, resetWritten, portWritten, commands, writes, swReset, written}
 use Rattle.machine.specs.Good.{Within}
@@ -78,6 +78,10 @@ sent-if : (o : Option Frame) (s : State) → kept (sendsIf o s .state) ≡ kept 
 sent-if none s = refl
 sent-if (some f) s = refl
 
+reset-if : (w : ℕ) (q : Request) (o : Option Frame) (s : State) → kept (softResetFollows w q o s .state) ≡ kept s
+reset-if w q none s = refl
+reset-if w q (some f) s = refl
+
 either : (b : Bool) (x : Kept) → cond b x x ≡ x
 either true x = refl
 either false x = refl
@@ -86,8 +90,8 @@ either false x = refl
 
 fails-kept : (p : Phase) (w : ℕ) (q : Request) (s : State) → kept (fails p w q s .state) ≡ kept s
 unfolding fails messageFails softFails
-fails-kept message w q s = simp (effect-if, either)
-fails-kept softReset w q s = simp (effect-if, either)
+fails-kept message w q s = simp (effect-if, reset-if, either)
+fails-kept (softReset k) w q s = simp (effect-if, either)
 
 elapses-kept : (w : ℕ) (q : Request) (s : State) → kept (elapses w q s .state) ≡ kept s
 unfolding elapses expires

@@ -17,3 +17,4 @@ pub mod Retrying
 pub mod Models
 pub mod Tempting
 pub mod Benched
+pub mod Resetting

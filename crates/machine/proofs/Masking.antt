@@ -17,7 +17,7 @@ use Rattle.machine.specs.State.{Phase, message, softReset, Pins, State, 
 use Rattle.machine.specs.Pins.{readings}
 use Rattle.machine.specs.Status.{status1aOf, status0Of, status1Of, changes, reports, clearedAt}
 use Rattle.machine.specs.Headers.{Soft-Reset, isControl}
-use Rattle.machine.specs.Requests.{Effect, silent, sendsIf, latched, start, over, acknowledged, sendHardReset, hardResetHeard, messageFails, softFails, fails, expires, elapses, passes}
+use Rattle.machine.specs.Requests.{Effect, silent, sendsIf, latched, start, over, acknowledged, sendHardReset, hardResetHeard, softResetFollows, messageFails, softFails, fails, expires, elapses, passes}
 use Rattle.machine.specs.Packets.{kindOn, awaited, awaitedBy, repliesTo, onlyIf, checks, softResetHeard, noted, keeps, stores, accepts, hears}
 use Rattle.machine.specs.Events.{Event, write, read, pass, hardReset, packet, sense, value, onRead}
 use Rattle.machine.specs.Refusals.{portStart, starts, toBeStored, queueAt, no12, no1, no2, no6, no3, no5, no4, no7, no8, no11, no9, no10, refusal}
@@ -109,12 +109,16 @@ module _ (d : List ℕ) where
   with-sends none s = refl
   with-sends (some f) s = refl
 
+  with-resets : (w : ℕ) (q : Request) (o : Option Frame) (s : State) → With (softResetFollows w q o s) ≡ softResetFollows w q o (withCells d s)
+  with-resets w q none s = refl
+  with-resets w q (some f) s = refl
+
   -- ---- time
 
   fails-with : (p : Phase) (w : ℕ) (q : Request) (s : State) → fails p w q (withCells d s) ≡ With (fails p w q s)
   unfolding fails messageFails softFails
-  fails-with message w q s = simp with-if
-  fails-with softReset w q s = simp with-if
+  fails-with message w q s = simp (with-if, with-resets)
+  fails-with (softReset k) w q s = simp with-if
 
   elapses-with : (w : ℕ) (q : Request) (s : State) → elapses w q (withCells d s) ≡ With (elapses w q s)
   unfolding elapses expires

@@ -44,11 +44,11 @@ good-crc-not-answered s room k m e = go (refusal s (packet room k m))
         refl
 
 -- what storing or dropping a packet leaves: queue, request and 3E; bits of 42 stay set
-record Leaves (s t : State) : Type 0 where
-  tx : t .tx ≡ s .tx
-  request : t .request ≡ s .request
-  a : t .ints .a ≡ s .ints .a
-  main : (m : ℕ) → Set m (s .ints .main) → Set m (t .ints .main)
+pub record Leaves (s t : State) : Type 0 where
+  pub tx : t .tx ≡ s .tx
+  pub request : t .request ≡ s .request
+  pub a : t .ints .a ≡ s .ints .a
+  pub main : (m : ℕ) → Set m (s .ints .main) → Set m (t .ints .main)
 
 alerts : (s t : State) → Leaves s t → (b : Bool) → Leaves s (onlyIf b (raises I-ALERT) t)
 alerts s t h true =
@@ -80,7 +80,7 @@ stores-leaves k m s = go (repliesTo m s)
     go true = record { tx = t .tx; request = t .request; a = t .a; main = t .main }
     go false = t
 
-accepts-leaves : (k : ℕ) (m : List ℕ) (s : State) → Leaves (noted k m s) (accepts k m s .state)
+pub accepts-leaves : (k : ℕ) (m : List ℕ) (s : State) → Leaves (noted k m s) (accepts k m s .state)
 unfolding accepts
 accepts-leaves k m s =
     leaves-cond (noted k m s) (fitsRx m (noted k m s)) _ _ (stores-leaves k m (noted k m s)) (alerts (noted k m s) _ (same (noted k m s)) true)

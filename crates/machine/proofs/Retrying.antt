@@ -1,7 +1,7 @@
 -- Retries are real: what a request sends and shows from its start to its end, while nothing but time passes.
 -- Assumes nothing.
 use mathlib.Core.Path.{_≡_, refl, sym, ap, _∙_, subst}
-use mathlib.Core.Bool.{Bool, true, false, not, cond, _&&_, _||_, and-eq-true-iff}
+use mathlib.Core.Bool.{Bool, true, false, not, cond, _&&_, _||_, and-eq-true-iff, true≢false}
 use mathlib.Core.List.{List, [], _∷_, _++_, append-nil, append-assoc}
 use mathlib.Core.Option.{Option, none, some}
 use Prim.Native.Nat.{ℕ, zero, suc, _+_, _*_, _-_, _/_, _<_, _≤_}
@@ -56,6 +56,7 @@ use Rattle.machine.specs.Theorems.{
   SentToTheEnd,
   ComesTo,
   FailsExactly,
+  Resetting,
 }
 
 -- ---- histories joined
@@ -82,15 +83,15 @@ data Stage (q : Request) (f : Frame) (base : State) : ℕ → State → List Fra
   sending : (k w : ℕ) {n : ℕ} → k ≤ q .retries → w < wait → n ≡ k * wait + w
       → Stage q f base n (withRequest (some (goesOn message k w q)) base) (replicate (suc k) f)
   resetting : (k w : ℕ) {n : ℕ} → q .soft ≡ true → k ≤ q .retries → w < wait → n ≡ endOf q + (k * wait + w)
-      → Stage q f base n (withRequest (some (goesOn softReset k w q)) (failed base))
-      (replicate (suc (q .retries)) f ++ replicate (suc k) (softResetOf q))
+      → Stage q f base n (withRequest (some (goesOn (softReset (f .kind)) k w q)) (failed base))
+      (replicate (suc (q .retries)) f ++ replicate (suc k) (softResetOf (f .kind) q))
   message-over : {n : ℕ} → q .soft ≡ false → endOf q ≤ n → Stage q f base n (failed base) (replicate (suc (q .retries)) f)
   reset-over : {n : ℕ} → q .soft ≡ true → q .hard ≡ false → endOf q + endOf q ≤ n
       → Stage q f base n (softFailed (failed base))
-      (replicate (suc (q .retries)) f ++ replicate (suc (q .retries)) (softResetOf q))
+      (replicate (suc (q .retries)) f ++ replicate (suc (q .retries)) (softResetOf (f .kind) q))
   hard-reset : {n : ℕ} → q .soft ≡ true → q .hard ≡ true → endOf q + endOf q ≤ n
       → Stage q f base n (raisesA I-HARDSENT (softFailed (failed base)))
-      (replicate (suc (q .retries)) f ++ replicate (suc (q .retries)) (softResetOf q) ++ (hardResetFrame ∷ []))
+      (replicate (suc (q .retries)) f ++ replicate (suc (q .retries)) (softResetOf (f .kind) q) ++ (hardResetFrame ∷ []))
 
 one-more : (n : ℕ) (f : Frame) → replicate n f ++ (f ∷ []) ≡ replicate (suc n) f
 one-more n f = let count : n + 1 ≡ suc n = omega arith in rw count at (replicate-append-replicate n 1 f)
@@ -135,24 +136,24 @@ module _ (q : Request) (f : Frame) (base : State) where
     unfolding elapses expires flightIn
     sends-again more spells = simp (le-ltb t wait long, lt-ltb k (q .retries) more, spells)
 
-    resets-again : (s : State) → k < q .retries → Comes softReset k w t s (sends (softResetOf q) (waiting softReset (suc k) (t - wait) s))
+    resets-again : (s : State) → k < q .retries → Comes (softReset (f .kind)) k w t s (sends (softResetOf (f .kind) q) (waiting (softReset (f .kind)) (suc k) (t - wait) s))
     unfolding elapses expires flightIn
     resets-again s more = simp (le-ltb t wait long, lt-ltb k (q .retries) more)
 
     module _ (s : State) (last : q .retries ≤ k) where
-      message-resets : q .soft ≡ true → Comes message k w t s (sends (softResetOf q) (waiting softReset 0 (t - wait) (failed s)))
+      message-resets : q .soft ≡ true → spelt (s .tx) ≡ some f → Comes message k w t s (sends (softResetOf (f .kind) q) (waiting (softReset (f .kind)) 0 (t - wait) (failed s)))
       unfolding elapses expires fails messageFails
-      message-resets soft = rw (le-ltb t wait long, le-ltb k (q .retries) last, soft) refl
+      message-resets soft spells = rw (le-ltb t wait long, le-ltb k (q .retries) last, soft, spells) refl
 
       message-ends : q .soft ≡ false → Comes message k w t s (silent (failed s))
       unfolding elapses expires fails messageFails
       message-ends soft = rw (le-ltb t wait long, le-ltb k (q .retries) last, soft) refl
 
-      reset-hard : q .hard ≡ true → Comes softReset k w t s (sends hardResetFrame (raisesA I-HARDSENT (softFailed s)))
+      reset-hard : q .hard ≡ true → Comes (softReset (f .kind)) k w t s (sends hardResetFrame (raisesA I-HARDSENT (softFailed s)))
       unfolding elapses expires fails softFails
       reset-hard hard = rw (le-ltb t wait long, le-ltb k (q .retries) last, hard) refl
 
-      reset-ends : q .hard ≡ false → Comes softReset k w t s (silent (softFailed s))
+      reset-ends : q .hard ≡ false → Comes (softReset (f .kind)) k w t s (silent (softFailed s))
       unfolding elapses expires fails softFails
       reset-ends hard = rw (le-ltb t wait long, le-ltb k (q .retries) last, hard) refl
 
@@ -181,7 +182,7 @@ module _ (q : Request) (f : Frame) (base : State) where
             let z = ltb-false t wait e in
             let y = ltb-false k (q .retries) g in
             let last : q .retries ≡ k = omega arith in
-            goes-by (n + m) fs (message-resets k w t z base y h)
+            goes-by (n + m) fs (message-resets k w t z base y h spells)
             (sent-as (resetting 0 (t - wait) h (omega arith) (omega arith) (omega arith)) (rw last refl))
         go false e false g false h =
             let z = ltb-false t wait e in
@@ -190,24 +191,24 @@ module _ (q : Request) (f : Frame) (base : State) where
             goes-by (n + m) fs (message-ends k w t z base y h) (sent-as (message-over h (omega arith)) (rw last (sym (append-nil fs))))
 
     reset-goes : q .soft ≡ true → n ≡ endOf q + (k * wait + w)
-        → Goes (n + m) (replicate (suc (q .retries)) f ++ replicate (suc k) (softResetOf q))
-        (elapses t (goesOn softReset k w q) (waiting softReset k w (failed base)))
+        → Goes (n + m) (replicate (suc (q .retries)) f ++ replicate (suc k) (softResetOf (f .kind) q))
+        (elapses t (goesOn (softReset (f .kind)) k w q) (waiting (softReset (f .kind)) k w (failed base)))
     reset-goes soft is = go (ltb t wait) refl (ltb k (q .retries)) refl (q .hard) refl
       where
         fs : List Frame
-        fs = replicate (suc (q .retries)) f ++ replicate (suc k) (softResetOf q)
+        fs = replicate (suc (q .retries)) f ++ replicate (suc k) (softResetOf (f .kind) q)
 
         go : (b : Bool) → ltb t wait ≡ b → (c : Bool) → ltb k (q .retries) ≡ c → (d : Bool) → q .hard ≡ d
-            → Goes (n + m) fs (elapses t (goesOn softReset k w q) (waiting softReset k w (failed base)))
+            → Goes (n + m) fs (elapses t (goesOn (softReset (f .kind)) k w q) (waiting (softReset (f .kind)) k w (failed base)))
         go true e c g d h =
             let z = ltb-true t wait e in
-            goes-by (n + m) fs (waits-on softReset k w t (failed base) z) (unsent (resetting k t soft few z (omega arith)))
+            goes-by (n + m) fs (waits-on (softReset (f .kind)) k w t (failed base) z) (unsent (resetting k t soft few z (omega arith)))
         go false e true g d h =
             let z = ltb-false t wait e in
             let y = ltb-true k (q .retries) g in
             goes-by (n + m) fs (resets-again k w t z (failed base) y)
             (sent-as (resetting (suc k) (t - wait) soft y (omega arith) (omega arith))
-            (ap (λ (l : List Frame). replicate (suc (q .retries)) f ++ l) (sym (one-more (suc k) (softResetOf q))) ∙ sym (append-assoc (replicate (suc (q .retries)) f) _ _)))
+            (ap (λ (l : List Frame). replicate (suc (q .retries)) f ++ l) (sym (one-more (suc k) (softResetOf (f .kind) q))) ∙ sym (append-assoc (replicate (suc (q .retries)) f) _ _)))
         go false e false g true h =
             let z = ltb-false t wait e in
             let y = ltb-false k (q .retries) g in
@@ -373,16 +374,16 @@ take-behind k n f l = rw (length-replicate n f) at (take-append-add (replicate n
 
 module _ (q : Request) (f : Frame) (base : State) where
   stage-sent : {n : ℕ} {t : State} {fs : List Frame} → Stage q f base n t fs
-      → fs ≡ take (suc (n / wait)) (replicate (suc (q .retries)) f ++ sequel q)
+      → fs ≡ take (suc (n / wait)) (replicate (suc (q .retries)) f ++ sequel (f .kind) q)
   stage-sent (sending k w few short is) =
       let d : (k * wait + w) / wait ≡ k = omega arith in
-      rw (is, d) (sym (take-first (suc k) (suc (q .retries)) f (sequel q) (omega arith)))
+      rw (is, d) (sym (take-first (suc k) (suc (q .retries)) f (sequel (f .kind) q) (omega arith)))
   stage-sent (resetting k w {n} soft few short is) =
       let d : suc (q .retries) + suc k ≡ suc (n / wait) = omega arith in
-      let all = replicate (suc (q .retries)) f ++ (replicate (suc (q .retries)) (softResetOf q) ++ cond (q .hard) (hardResetFrame ∷ []) []) in
+      let all = replicate (suc (q .retries)) f ++ (replicate (suc (q .retries)) (softResetOf (f .kind) q) ++ cond (q .hard) (hardResetFrame ∷ []) []) in
       rw soft
       (sym (take-behind (suc k) (suc (q .retries)) f _
-      ∙ ap (λ (l : List Frame). replicate (suc (q .retries)) f ++ l) (take-first (suc k) (suc (q .retries)) (softResetOf q) _ (omega arith)))
+      ∙ ap (λ (l : List Frame). replicate (suc (q .retries)) f ++ l) (take-first (suc k) (suc (q .retries)) (softResetOf (f .kind) q) _ (omega arith)))
       ∙ ap (λ (c : ℕ). take c all) d)
   stage-sent (message-over {n} soft h) =
       let messages = replicate (suc (q .retries)) f in
@@ -390,28 +391,28 @@ module _ (q : Request) (f : Frame) (base : State) where
       rw soft (sym (ap (take (suc (n / wait))) (append-nil messages) ∙ take-all (suc (n / wait)) messages (omega arith)))
   stage-sent (reset-over {n} soft hard h) =
       let messages = replicate (suc (q .retries)) f in
-      let resets = replicate (suc (q .retries)) (softResetOf q) in
+      let resets = replicate (suc (q .retries)) (softResetOf (f .kind) q) in
       let one = length-replicate (suc (q .retries)) f in
-      let two = length-replicate (suc (q .retries)) (softResetOf q) in
+      let two = length-replicate (suc (q .retries)) (softResetOf (f .kind) q) in
       let both = length-append messages resets in
       rw (soft, hard)
       (sym (ap (λ (l : List Frame). take (suc (n / wait)) (messages ++ l)) (append-nil resets) ∙ take-all (suc (n / wait)) (messages ++ resets) (omega arith)))
   stage-sent (hard-reset {n} soft hard h) =
       let messages = replicate (suc (q .retries)) f in
-      let resets = replicate (suc (q .retries)) (softResetOf q) in
+      let resets = replicate (suc (q .retries)) (softResetOf (f .kind) q) in
       let one = length-replicate (suc (q .retries)) f in
-      let two = length-replicate (suc (q .retries)) (softResetOf q) in
+      let two = length-replicate (suc (q .retries)) (softResetOf (f .kind) q) in
       let both = length-append messages (resets ++ (hardResetFrame ∷ [])) in
       let last = length-append resets (hardResetFrame ∷ []) in
       rw (soft, hard) (append-assoc messages resets (hardResetFrame ∷ []) ∙ sym (take-all (suc (n / wait)) (messages ++ (resets ++ (hardResetFrame ∷ []))) (omega arith)))
 
 -- ---- what a stage shows
 
-has-set : (x m : ℕ) → has m (bitOr x m) ≡ not (eqb m 0)
+pub has-set : (x m : ℕ) → has m (bitOr x m) ≡ not (eqb m 0)
 unfolding has
 has-set x m = ap (λ (y : ℕ). not (eqb y 0)) (set-by x m)
 
-has-other : (k x m : ℕ) → bitAnd m k ≡ 0 → has k (bitOr x m) ≡ has k x
+pub has-other : (k x m : ℕ) → bitAnd m k ≡ 0 → has k (bitOr x m) ≡ has k x
 unfolding has
 has-other k x m e = ap (λ (y : ℕ). not (eqb y 0)) (set-other k x m e)
 
@@ -519,6 +520,22 @@ sent-to-the-end s e f room ns enough parts st = stage-sent (latched s) f _ (star
 
 pub fails-exactly : FailsExactly
 fails-exactly s e f room ns enough parts st = stage-shows s f _ (start-opened s e f st) (latched s) (started-runs s e f room enough st ns parts)
+
+-- ---- between its message's failure and its own a Soft_Reset is in flight, on the message's kind
+
+stage-resets : (q : Request) (f : Frame) (base : State) {n : ℕ} {t : State} {fs : List Frame} → Stage q f base n t fs
+    → q .soft ≡ true → endOf q ≤ n → n < endOf q + endOf q → Resetting t (f .kind)
+stage-resets q f base (sending k w few short is) soft late early = absurd (omega arith)
+stage-resets q f base (resetting k w soft few short is) soft' late early =
+    record { request = goesOn (softReset (f .kind)) k w q; is = refl; phase = refl }
+stage-resets q f base (message-over off h) soft late early = absurd (true≢false (sym soft ∙ off))
+stage-resets q f base (reset-over soft hard h) soft' late early = absurd (omega arith)
+stage-resets q f base (hard-reset soft hard h) soft' late early = absurd (omega arith)
+
+pub resets-after-start : (s : State) (e : Event) (f : Frame) (room : ℕ) (ns : List ℕ) → frameRoom ≤ room → AllParts ns → Started s e f
+    → latched s .soft ≡ true → endOf (latched s) ≤ inAll ns → inAll ns < endOf (latched s) + endOf (latched s)
+    → Resetting (after s (e ∷ passing room ns)) (f .kind)
+resets-after-start s e f room ns enough parts st = stage-resets (latched s) f _ (started-runs s e f room enough st ns parts)
 
 -- ---- while there are retries to send, the next wait sends one
 

@@ -78,6 +78,7 @@ use Rattle.machine.specs.Requests.{
   hardResetFrame,
   hardResetHeard,
   goesOn,
+  softResetFollows,
   messageFails,
   softFails,
   fails,
@@ -123,12 +124,12 @@ use Rattle.machine.specs.Step.{
   resultOf,
   after,
 }
-use Rattle.machine.specs.Good.{RequestGood, OpenGood, Good}
+use Rattle.machine.specs.Good.{PhaseGood, RequestGood, OpenGood, Good}
 use Rattle.machine.specs.Theorems.{pinInterrupts, AllFit, NoneApplies, StaysGood, AlwaysGood, OneFrame, WholeFrames}
 use Rattle.machine.proofs.Masks.{within-le, within-wider, cells-at}
 use Rattle.machine.proofs.Comparing.{changes-within}
 use Rattle.machine.proofs.Refusing.{first-none-exactly}
-use Rattle.machine.proofs.Spelling.{spelt-whole}
+use Rattle.machine.proofs.Spelling.{spelt-exactly, spelt-whole}
 use Rattle.machine.proofs.Keeping.{
   power-up-good,
   keeps-cells,
@@ -211,23 +212,27 @@ start-fine s g h =
 
 -- ---- time
 
-flight-whole : (p : Phase) (q : Request) (tx : List ℕ) → Octets tx → (f : Frame) → flightIn p q tx ≡ some f → Whole f
+flight-whole : (p : Phase) (q : Request) (tx : List ℕ) → Octets tx → PhaseGood p tx → (f : Frame) → flightIn p q tx ≡ some f → Whole f
 unfolding flightIn
-flight-whole Phase.message q tx o f e = spelt-whole tx f o e
-flight-whole softReset q tx o f e =
-    let same : softResetOf q ≡ f = cc in subst Whole same (control-whole _ 0 (q .switches1) 0 (omega arith))
+flight-whole Phase.message q tx o g f e = spelt-whole tx f o e
+flight-whole (softReset k) q tx o g f e =
+    let same : softResetOf k q ≡ f = cc in subst Whole same (control-whole _ k (q .switches1) 0 (g .0))
 
 module _ (s : State) (g : Good s) (q : Request) (r : RequestGood q (s .tx)) where
+  resets-fine : (w : ℕ) → w < wait → (o : Option Frame) → spelt (s .tx) ≡ o → (t : State) → t .tx ≡ [] → Good t → Fine (softResetFollows w q o t)
+  resets-fine w h none is t empty good = quiet t good
+  resets-fine w h (some f) is t empty good =
+      let kind = spelt-exactly (s .tx) f .0 is .sop in
+      sent _ _ (control-whole _ _ (q .switches1) 0 (omega (arith, kind)))
+      (keeps-request t good _
+      (record { octet = r .octet; few = r .few; sent = omega arith; waited = h; phase = (omega (arith, kind), empty) }))
+
   fails-fine : (p : Phase) (w : ℕ) → w < wait → Fine (fails p w q s)
   unfolding fails messageFails softFails
   fails-fine Phase.message w h =
       let t = keeps-raises-a _ (keeps-shows _ (keeps-over s g) RETRYFAIL refl) I-RETRYFAIL refl in
-      by-test (q .soft) _ _
-      (λ e. sent (softResetOf q) _ (control-whole _ 0 (q .switches1) 0 (omega arith))
-      (keeps-request _ t (goesOn softReset 0 w q)
-      (record { octet = r .octet; few = r .few; sent = omega arith; waited = h; phase = refl })))
-      (λ e. quiet _ t)
-  fails-fine softReset w h =
+      by-test (q .soft) _ _ (λ e. resets-fine w h (spelt (s .tx)) refl _ refl t) (λ e. quiet _ t)
+  fails-fine (softReset k) w h =
       let t = keeps-raises-a _ (keeps-shows _ (keeps-over s g) SOFTFAIL refl) I-SOFTFAIL refl in
       by-test (q .hard) _ _ (λ e. sent hardResetFrame _ reset-whole (keeps-raises-a _ t I-HARDSENT refl)) (λ e. quiet _ t)
 
@@ -235,7 +240,7 @@ module _ (s : State) (g : Good s) (q : Request) (r : RequestGood q (s .tx)) wher
   unfolding expires
   expires-fine w h =
       by-test (ltb (q .sent) (q .retries)) _ _
-      (λ e. sent-if (flight s q) _ (flight-whole (q .phase) q (s .tx) (g .tx))
+      (λ e. sent-if (flight s q) _ (flight-whole (q .phase) q (s .tx) (g .tx) (r .phase))
       (keeps-request s g (goesOn (q .phase) (suc (q .sent)) w q)
       (record { octet = r .octet; few = r .few; sent = ltb-true (q .sent) (q .retries) e; waited = h; phase = r .phase })))
       (λ e. fails-fine (q .phase) w h)

@@ -15,8 +15,8 @@ use Rattle.line.specs.Refusal.{firstNo}
 use Rattle.machine.specs.Registers.{storedBits, cell, switches1, has}
 use Rattle.machine.specs.State.{Phase, message, softReset, Request, State, withCells, withTx, withRequest, shows, raises, raisesA}
 use Rattle.machine.specs.Status.{txFull, RETRYFAIL, I-RETRYFAIL, I-ALERT}
-use Rattle.machine.specs.Queue.{inside}
-use Rattle.machine.specs.Requests.{Effect, silent, sendsIf, over, wait, softResetOf, hardResetFrame, flight, flightIn, goesOn, messageFails, softFails, fails, expires, elapses, passes}
+use Rattle.machine.specs.Queue.{inside, spelt}
+use Rattle.machine.specs.Requests.{Effect, silent, sendsIf, over, wait, softResetOf, hardResetFrame, flight, flightIn, goesOn, softResetFollows, messageFails, softFails, fails, expires, elapses, passes}
 use Rattle.machine.specs.Packets.{onlyIf}
 use Rattle.machine.specs.Events.{pass}
 use Rattle.machine.specs.Refusals.{no12, no1, no2, no6, no3, no5, no4, no7, no8, no11, no9, no10, refusal}
@@ -68,12 +68,16 @@ abbrev asking : ℕ → ℕ → Bool → Bool → Phase → ℕ → ℕ → Requ
 asking a r soft hard p k w = record { switches1 = a; retries = r; soft = soft; hard = hard; phase = p; sent = k; waited = w }
 
 module _ (s : State) (a r : ℕ) (soft hard : Bool) (k : ℕ) where
+  resets-once : (o : Option Frame) (v w t : ℕ) (u : State) → softResetFollows t (asking a r soft hard message k v) o u ≡ softResetFollows t (asking a r soft hard message k w) o u
+  resets-once none v w t u = refl
+  resets-once (some f) v w t u = refl
+
   -- how long a request has waited is told by the time in all, and not twice
   waited-once : (p : Phase) (v w t : ℕ)
       → elapses t (asking a r soft hard p k v) (withRequest (some (asking a r soft hard p k v)) s) ≡ elapses t (asking a r soft hard p k w) s
   unfolding elapses expires fails flightIn messageFails softFails
-  waited-once message v w t = refl
-  waited-once softReset v w t = refl
+  waited-once message v w t = rw (resets-once (spelt (s .tx)) v w (t - wait) (raisesA I-RETRYFAIL (shows RETRYFAIL (over s)))) refl
+  waited-once (softReset i) v w t = refl
 
 module _ (m : ℕ) where
   -- the request goes on and its wait does not run out; or there is none
@@ -98,11 +102,14 @@ module _ (m : ℕ) where
     sends-onward none = still [] (goesOn (q .phase) (suc (q .sent)) w q) s h
     sends-onward (some f) = still (f ∷ []) (goesOn (q .phase) (suc (q .sent)) w q) s h
 
+    resets-onward : (o : Option Frame) (t : State) → t .request ≡ none → onward m (softResetFollows w q o t) ≡ softResetFollows (w + m) q o t
+    resets-onward none t e = idle [] t e
+    resets-onward (some f) t e = still (softResetOf (f .kind) q ∷ []) (goesOn (softReset (f .kind)) 0 w q) t h
+
     fails-onward : (p : Phase) → onward m (fails p w q s) ≡ fails p (w + m) q s
     unfolding fails messageFails softFails
-    fails-onward message =
-        onward-cond (q .soft) _ _ _ _ (still (softResetOf q ∷ []) (goesOn softReset 0 w q) (raisesA I-RETRYFAIL (shows RETRYFAIL (over s))) h) (idle [] _ refl)
-    fails-onward softReset = onward-cond (q .hard) _ _ _ _ (idle (hardResetFrame ∷ []) _ refl) (idle [] _ refl)
+    fails-onward message = onward-cond (q .soft) _ _ _ _ (resets-onward (spelt (s .tx)) _ refl) (idle [] _ refl)
+    fails-onward (softReset k) = onward-cond (q .hard) _ _ _ _ (idle (hardResetFrame ∷ []) _ refl) (idle [] _ refl)
 
     expires-onward : onward m (expires w q s) ≡ expires (w + m) q s
     unfolding expires

@@ -1,4 +1,4 @@
--- The cases of 01 'On the bench table' that are marked P, in one table; proofs/Benched.antt computes it.
+-- The cases of 01 'On the bench table' that are marked P, and some of 02, in one table; proofs/Benched.antt computes it.
 -- Assumes nothing.
 use mathlib.Core.Path.{_≡_}
 use mathlib.Core.Bool.{Bool, true, false}
@@ -60,9 +60,23 @@ name = 0x4F ∷ 0x10 ∷ 0x6C ∷ 0xC3 ∷ 0xA1 ∷ 0x21 ∷ []
 abbrev pub nameQueue : List ℕ
 nameQueue = 0x12 ∷ 0x12 ∷ 0x12 ∷ 0x13 ∷ 0x86 ∷ (name ++ (0xFF ∷ 0x14 ∷ 0xFE ∷ []))
 
--- a heard header of type 3 with MessageID 5
+-- a header of type 3 with MessageID 5
 abbrev pub fifth : List ℕ
 fifth = 0x43 ∷ 0x0A ∷ []
+
+-- a message on SOP, or to a cable plug on SOP', started with AUTO_SOFTRESET and both roles in 03, and nobody answers (02, A2)
+abbrev pub unanswered : List ℕ → List Event
+unanswered set = w 0x03 0xB1 ∷ w 0x09 0x08 ∷ (port (set ++ (0x82 ∷ (fifth ++ (0xFF ∷ 0x14 ∷ 0xFE ∷ 0xA1 ∷ [])))) ++ (t 999 ∷ []))
+
+abbrev pub toSop : List ℕ
+toSop = 0x12 ∷ 0x12 ∷ 0x12 ∷ 0x13 ∷ []
+
+abbrev pub toPlug : List ℕ
+toPlug = 0x12 ∷ 0x12 ∷ 0x1B ∷ 0x1B ∷ []
+
+-- a GoodCRC with MessageID 0, which answers a Soft_Reset
+abbrev pub answer : List ℕ
+answer = 0x41 ∷ 0x00 ∷ []
 
 -- Rx holds a packet of 34 octets and one of n + 4, each with its token
 abbrev pub fills : ℕ → List Event
@@ -93,6 +107,11 @@ cases =
     ∷ device (fills 5) (p 0 (replicate 30 1)) done [] [] 80
     ∷ device (fills 6) (p 0 (replicate 30 1)) done [] [] 46
     ∷ device (w 0x03 0x20 ∷ []) (w 0x09 0x46) (no 7) [] [] 0
+    ∷ device (unanswered toSop) (t 1) done (symbolsOf (record { kind = 0; octets = 0x6D ∷ 0x01 ∷ [] })) [] 0
+    ∷ device (unanswered toPlug) (t 1) done (symbolsOf (record { kind = 1; octets = 0x4D ∷ 0x00 ∷ [] })) [] 0
+    ∷ device (unanswered toPlug ++ (w 0x07 0x01 ∷ t 1 ∷ p 0 answer ∷ [])) (w 0x43 0x12) (no 6) [] [] 7
+    ∷ device (unanswered toPlug ++ (w 0x07 0x01 ∷ t 1 ∷ p 1 answer ∷ [])) (w 0x43 0x12) done [] (0x12 ∷ []) 7
+    ∷ device (unanswered toPlug ++ (t 1 ∷ p 1 answer ∷ [])) (w 0x43 0x12) (no 6) [] [] 0
     ∷ reader [] (noAt 14 0)
     ∷ reader (0x18 ∷ 0x18 ∷ 0x11 ∷ []) (noAt 13 2)
     ∷ []

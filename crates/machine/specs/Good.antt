@@ -29,10 +29,10 @@ abbrev pub KindGood : Option ℕ → Type 0
 KindGood none = Unit {0}
 KindGood (some k) = k < sopKinds
 
--- the queue keeps its message while that is in flight, and is empty while a Soft_Reset is
+-- the queue keeps its message while that is in flight, and is empty while a Soft_Reset is, on an SOP kind
 abbrev pub PhaseGood : Phase → List ℕ → Type 0
 PhaseGood message q = (f : Frame) × (spelt q ≡ some f)
-PhaseGood softReset q = q ≡ []
+PhaseGood (softReset k) q = (k < sopKinds) × (q ≡ [])
 
 pub record RequestGood (q : Request) (tx : List ℕ) : Type 0 where
   pub octet : q .switches1 < 256

@@ -38,14 +38,14 @@ driverOn sw = eqb (bitAnd sw TXCC) 1 || eqb (bitAnd sw TXCC) 2
 abbrev pub hardResetFrame : Frame
 hardResetFrame = record { kind = 5; octets = [] }
 
--- the Soft_Reset that follows a message which failed: on SOP, MessageID 0, by the latched Switches1
-abbrev pub softResetOf : Request → Frame
-softResetOf q = control Soft-Reset 0 (q .switches1) 0
+-- the Soft_Reset that follows a message which failed: on that message's kind (02, A2), MessageID 0, by the latched Switches1
+abbrev pub softResetOf : ℕ → Request → Frame
+softResetOf k q = control Soft-Reset k (q .switches1) 0
 
 -- the frame that a request sends and sends again, in each phase
 unfoldable pub flightIn : Phase → Request → List ℕ → Option Frame
 flightIn message q tx = spelt tx
-flightIn softReset q tx = some (softResetOf q)
+flightIn (softReset k) q tx = some (softResetOf k q)
 
 abbrev pub flight : State → Request → Option Frame
 flight s q = flightIn (q .phase) q (s .tx)
@@ -100,11 +100,17 @@ abbrev pub goesOn : Phase → ℕ → ℕ → Request → Request
 goesOn p n w q =
     record { switches1 = q .switches1; retries = q .retries; soft = q .soft; hard = q .hard; phase = p; sent = n; waited = w }
 
+-- the Soft_Reset follows, on the kind of the message that the queue spelt (02, A2), and w microseconds of its wait have passed;
+-- nothing follows where the queue spelt none, which no good state has
+abbrev pub softResetFollows : ℕ → Request → Option Frame → State → Effect
+softResetFollows w q none s = silent s
+softResetFollows w q (some f) s = sends (softResetOf (f .kind) q) (withRequest (some (goesOn (softReset (f .kind)) 0 w q)) s)
+
 -- the message failed: then the Soft_Reset, if AUTO_SOFTRESET was latched
 unfoldable pub messageFails : ℕ → Request → State → Effect
 messageFails w q s =
     let t = raisesA I-RETRYFAIL (shows RETRYFAIL (over s)) in
-    cond (q .soft) (sends (softResetOf q) (withRequest (some (goesOn softReset 0 w q)) t)) (silent t)
+    cond (q .soft) (softResetFollows w q (spelt (s .tx)) t) (silent t)
 
 -- the Soft_Reset failed: then a Hard Reset, if AUTO_HARDRESET was latched
 unfoldable pub softFails : Request → State → Effect
@@ -114,7 +120,7 @@ softFails q s =
 
 unfoldable pub fails : Phase → ℕ → Request → State → Effect
 fails message w q s = messageFails w q s
-fails softReset w q s = softFails q s
+fails (softReset k) w q s = softFails q s
 
 -- a wait ran out, and w microseconds of the next have passed
 unfoldable pub expires : ℕ → Request → State → Effect

@@ -7,10 +7,11 @@ use Prim.Native.Nat.{ℕ, _-_}
 use lib.Bits.{bitAnd, bitOr}
 use Rattle.machine.specs.Registers.{resets, cell}
 
--- what a request sends: its message, or the Soft_Reset that follows when that failed
+-- what a request sends: its message, which the queue keeps; or, when that has failed and the queue is empty, the Soft_Reset on
+-- the message's kind (02, A2)
 pub data Phase : Type 0 where
   message : Phase
-  softReset : Phase
+  softReset : (kind : ℕ) → Phase
 
 -- an open request: what its start latched, and how far it has come
 pub record Request : Type 0 where

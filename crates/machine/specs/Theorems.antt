@@ -41,7 +41,7 @@ use Rattle.machine.specs.Registers.{
   PD-RESET,
   SW-RES,
 }
-use Rattle.machine.specs.State.{Request, State, powerUp, reg, withCells, withInts, withPins}
+use Rattle.machine.specs.State.{message, softReset, Request, State, powerUp, reg, withCells, withInts, withPins}
 use Rattle.machine.specs.Status.{
   txRoom,
   SOFTFAIL,
@@ -60,7 +60,7 @@ use Rattle.machine.specs.Status.{
   status0Of,
 }
 use Rattle.machine.specs.Queue.{START, closing, setSymbol, inside, spelt}
-use Rattle.machine.specs.Headers.{GoodCRC, isControl}
+use Rattle.machine.specs.Headers.{GoodCRC, heardHeader, typeOf, messageId, objects, isControl}
 use Rattle.machine.specs.Requests.{wait, hardResetFrame, opened, driverOn, softResetOf, latched}
 use Rattle.machine.specs.Packets.{kindOn, awaited}
 use Rattle.machine.specs.Events.{Event, write, read, pass, hardReset, packet, sense, Fits, Reply, done, no, value, onRead}
@@ -205,11 +205,11 @@ pub record Started (s : State) (e : Event) (f : Frame) : Type 0 where
   pub taken : refusal s e ≡ none
   pub sent : step s e .frames ≡ f ∷ []
 
--- what follows the message: Soft_Resets if AUTO_SOFTRESET was latched, and then a Hard Reset if AUTO_HARDRESET was
-abbrev pub sequel : Request → List Frame
-sequel q =
+-- what follows a message on kind k: Soft_Resets on that kind if AUTO_SOFTRESET was latched, and then a Hard Reset if AUTO_HARDRESET was
+abbrev pub sequel : ℕ → Request → List Frame
+sequel k q =
     cond (q .soft)
-    (replicate (suc (q .retries)) (softResetOf q) ++ cond (q .hard) (hardResetFrame ∷ []) [])
+    (replicate (suc (q .retries)) (softResetOf k q) ++ cond (q .hard) (hardResetFrame ∷ []) [])
     []
 
 -- while nothing but time passes, one frame leaves at the start and one at each 1,000 microseconds: the message r + 1 times, and then its sequel
@@ -217,7 +217,7 @@ abbrev pub SentToTheEnd : Type 0
 SentToTheEnd =
     (s : State) (e : Event) (f : Frame) (room : ℕ) (ns : List ℕ) → frameRoom ≤ room → AllParts ns → Started s e f
     → frames s (e ∷ passing room ns)
-    ≡ take (suc (inAll ns / wait)) (replicate (suc (latched s .retries)) f ++ sequel (latched s))
+    ≡ take (suc (inAll ns / wait)) (replicate (suc (latched s .retries)) f ++ sequel (f .kind) (latched s))
 
 -- what a start in s has come to in t: whether the message failed, the Soft_Reset failed, a Hard Reset left, and the request is open;
 -- of these three interrupts, those that were set before stay, and no other is set
@@ -468,3 +468,96 @@ SwResKeepsVoltages =
     (s : State) (room v : ℕ) → frameRoom ≤ room → has SW-RES v ≡ true
     → let t = step s (write room reset v) .state in
     (t ≡ withPins (s .pins) powerUp) × (status0Of t ≡ cond (leb 4000 (s .pins .vbus)) VBUSOK 0)
+
+-- ---- 10. The Soft_Reset goes to the one that was silent (02, A2)
+
+-- a Soft_Reset on kind k: a whole frame of a header alone, which says type D, MessageID 0, the revision of Switches1 and, on SOP, its roles
+pub record IsSoftReset (f : Frame) (k sw : ℕ) : Type 0 where
+  pub whole : Whole f
+  pub kind : f .kind ≡ k
+  pub alone : length (f .octets) ≡ 2
+  pub type : typeOf (f .octets) ≡ 0xD
+  pub bit-4 : heardHeader (f .octets) / 16 % 2 ≡ 0
+  pub data-role : heardHeader (f .octets) / 32 % 2 ≡ cond (eqb k 0) (sw / 16 % 2) 0
+  pub revision : heardHeader (f .octets) / 64 % 4 ≡ sw / 32 % 4
+  pub power-role : heardHeader (f .octets) / 256 % 2 ≡ cond (eqb k 0) (sw / 128 % 2) 0
+  pub id : messageId (f .octets) ≡ 0
+  pub count : objects (f .octets) ≡ 0
+  pub bit-15 : heardHeader (f .octets) / 0x8000 ≡ 0
+
+-- such is the frame that follows a message on any kind (SentToTheEnd)
+abbrev pub SoftResetSays : Type 0
+SoftResetSays = (k : ℕ) (q : Request) → k < sopKinds → IsSoftReset (softResetOf k q) k (q .switches1)
+
+-- a Soft_Reset on kind k is in flight
+pub record Resetting (s : State) (k : ℕ) : Type 0 where
+  pub request : Request
+  pub is : s .request ≡ some request
+  pub phase : request .phase ≡ softReset k
+
+-- two requests of one start: what that latched is the same
+pub record OneStart (q r : Request) : Type 0 where
+  pub switches1 : r .switches1 ≡ q .switches1
+  pub retries : r .retries ≡ q .retries
+  pub soft : r .soft ≡ q .soft
+  pub hard : r .hard ≡ q .hard
+
+-- a request goes on: in the same phase, with the same queue
+pub record Continues (s : State) (q : Request) (t : State) (r : Request) : Type 0 where
+  pub start : OneStart q r
+  pub phase : r .phase ≡ q .phase
+  pub queue : t .tx ≡ s .tx
+
+-- its message has failed, and what leaves is its Soft_Reset on the kind of that message
+pub record FollowedByReset (s : State) (q : Request) (t : State) (r : Request) (left : List Frame) : Type 0 where
+  pub start : OneStart q r
+  pub frame : Frame
+  pub spells : spelt (s .tx) ≡ some frame
+  pub sending : q .phase ≡ message
+  pub last : q .retries ≤ q .sent
+  pub soft : q .soft ≡ true
+  pub failed : has RETRYFAIL (t .status .status0a) ≡ true
+  pub phase : r .phase ≡ softReset (frame .kind)
+  pub sent : left ≡ softResetOf (frame .kind) r ∷ []
+
+-- whatever the event, a request that is open after it was started by it, none being open, with what it latches as that write
+-- leaves the registers; or it is the one that was open, and goes on, or its message has failed
+pub data Whence (s : State) (x : Result) (r : Request) : Type 0 where
+  begun : s .request ≡ none → r ≡ latched (x .state) → Whence s x r
+  continued : (q : Request) → s .request ≡ some q → Continues s q (x .state) r → Whence s x r
+  followed : (q : Request) → s .request ≡ some q → FollowedByReset s q (x .state) r (x .frames) → Whence s x r
+
+pub record ResetsOnKind : Type 0 where
+  -- so a Soft_Reset is in flight only on the kind of a message that failed, and stays on it
+  pub whence : (s : State) (e : Event) (r : Request) → step s e .state .request ≡ some r → Whence s (step s e) r
+  -- time sends it again, a Hard Reset, or nothing
+  pub again :
+      (s : State) (room n k : ℕ) (r : Resetting s k) → let fs = step s (pass room n) .frames in
+      (fs ≡ []) ⊎ ((fs ≡ softResetOf k (r .request) ∷ []) ⊎ (fs ≡ hardResetFrame ∷ []))
+  -- while nothing but time passes, it is in flight from the message's failure to its own
+  pub after-start :
+      (s : State) (e : Event) (f : Frame) (room : ℕ) (ns : List ℕ) → frameRoom ≤ room → AllParts ns → Started s e f
+      → let q = latched s in
+      let end = suc (q .retries) * wait in
+      q .soft ≡ true → end ≤ inAll ns → inAll ns < end + end → Resetting (after s (e ∷ passing room ns)) (f .kind)
+
+-- the GoodCRC of a Soft_Reset on kind k: heard right, on that kind, with MessageID 0
+pub record Acknowledges (s : State) (room k j : ℕ) (m : List ℕ) : Type 0 where
+  pub right : HeardRight s room j m
+  pub good-crc : isControl GoodCRC m ≡ true
+  pub kind : j ≡ k
+  pub id : messageId m ≡ 0
+
+-- it ends the request, and no other packet does; and a packet of a kind that is off changes nothing
+pub record ResetAnswered : Type 0 where
+  pub ends :
+      (s : State) (room k j : ℕ) (m : List ℕ) → Resetting s k → Acknowledges s room k j m
+      → let t = step s (packet room j m) .state in
+      (t .request ≡ none) × (t .tx ≡ []) × (has I-TXSENT (t .ints .a) ≡ true)
+  pub stands :
+      (s : State) (room k j : ℕ) (m : List ℕ) → Resetting s k → (Acknowledges s room k j m → ⊥)
+      → let t = step s (packet room j m) .state in
+      (t .request ≡ s .request) × (has I-TXSENT (t .ints .a) ≡ has I-TXSENT (s .ints .a))
+  pub off :
+      (s : State) (room j : ℕ) (m : List ℕ) → kindOn j s ≡ false
+      → (step s (packet room j m) .state ≡ s) × (step s (packet room j m) .frames ≡ [])

@@ -14,9 +14,10 @@ answers-requires c κs = search needs
 
 returns : tie.Need-returns
 returns c =
-    let at-if1 = c .before .before .before .before in
+    let at-if2 = c .before .before .before in
+    let at-if1 = at-if2 .before .before in
     let entry = at-if1 .before .before in
-    awaits-reset (entry .args .self) _ _ (at-if1 .if1 .taken) (sym (c .before .before .before .is-control .ensures) ∙ c .before .before .if2 .taken) (c .before .if3 .taken) _ (c .answers .ensures)
+    awaits-reset (entry .args .self) _ _ (at-if1 .if1 .taken) (sym (at-if2 .before .is-control .ensures) ∙ at-if2 .if2 .taken) (c .before .if3 .taken) _ (c .answers .ensures)
 
 message-requires : tie.Need-message-requires
 message-requires c κs = search needs
@@ -32,9 +33,8 @@ part-message-id-start c = search needs
 
 part-message-id-end : tie.Need-part-message-id-end
 part-message-id-end c =
-    let at-match = c .before .before .before .before in
-    let at-if2 = at-match .before .before .before .before in
-    let entry = at-if2 .before .before .before .before in
+    let at-if3 = c .before .before .before .before .before .before .before in
+    let entry = at-if3 .before .before .before .before .before .before in
     omega (arith, entry .pre .0 .tx .size)
 
 message-id-requires : tie.Need-message-id-requires
@@ -50,7 +50,7 @@ returns-2 c =
     let at-sent = at-octets2 .before .before .before in
     let at-message = at-sent .before .before in
     let at-if3 = at-message .before .before in
-    let at-if2 = at-if3 .before in
+    let at-if2 = at-if3 .before .before in
     let at-is-control = at-if2 .before in
     let at-if1 = at-is-control .before in
     let entry = at-if1 .before .before in
@@ -62,7 +62,7 @@ enum-told c = search needs
 returns-3 : tie.Need-returns-3
 returns-3 c =
     let at-if3 = c .before .before .before .before in
-    let at-if1 = at-if3 .before .before .before in
+    let at-if1 = at-if3 .before .before .before .before in
     let entry = at-if1 .before .before in
     awaits-nothing (entry .args .self) _ _ (at-if1 .if1 .taken) (at-if3 .if3 .left) _ (c .before .before .message .ensures) (c .enum-told .given .1)
 

@@ -1,8 +1,7 @@
 -- It is sent again while retries are left; else the Soft_Reset failed, or the message.
 use borrow.Author.Needs.{needs}
-use mathlib.Core.Bool.{true, false}
 use Rattle.machine.specs.Requests.{fails}
-use Rattle.fusb302.proofs.Waiting.{expires-again, expires-last}
+use Rattle.fusb302.proofs.Waiting.{phase-reset, phase-message, expires-again, expires-last}
 use Rattle.fusb302.proofs.device.Device.expire.Statement.{statement}
 use Rattle.fusb302.proofs.device.Device.expire.Tie as tie
 
@@ -43,9 +42,9 @@ returns-2 : tie.Need-returns-2
 unfolding fails
 returns-2 c =
     let at-if2 = c .before .before .before .before in
-    let at-if1 = at-if2 .before in
+    let at-if1 = at-if2 .before .before in
     let entry = at-if1 .before .before .before .before in
-    expires-last (entry .args .self) _ _ _ _ (at-if1 .if1 .left) true (at-if2 .if2 .taken) (c .before .before .soft-fails .ensures)
+    expires-last (entry .args .self) _ _ _ _ (at-if1 .if1 .left) _ (phase-reset _ (at-if2 .if2 .taken)) (c .before .before .soft-fails .ensures)
 
 message-fails-requires : tie.Need-message-fails-requires
 message-fails-requires c κs = search needs
@@ -57,9 +56,9 @@ returns-3 : tie.Need-returns-3
 unfolding fails
 returns-3 c =
     let at-if2 = c .before .before .before .before in
-    let at-if1 = at-if2 .before in
+    let at-if1 = at-if2 .before .before in
     let entry = at-if1 .before .before .before .before in
-    expires-last (entry .args .self) _ _ _ _ (at-if1 .if1 .left) false (at-if2 .if2 .left) (c .before .before .message-fails .ensures)
+    expires-last (entry .args .self) _ _ _ _ (at-if1 .if1 .left) _ (phase-message _ (at-if2 .if2 .left)) (c .before .before .message-fails .ensures)
 
 pub expire-spec : {M : Type 1} → statement M
 expire-spec =

@@ -14,36 +14,25 @@ shows-requires c κs = search needs
 raises-a-requires : tie.Need-raises-a-requires
 raises-a-requires c κs = search needs
 
-put-control-requires : tie.Need-put-control-requires
-put-control-requires c κs = search needs
-
-goes-on-requires : tie.Need-goes-on-requires
-goes-on-requires c κs = search needs
-
-requests-requires : tie.Need-requests-requires
-requests-requires c κs = search needs
-
-done-requires : tie.Need-done-requires
-done-requires c κs = search needs
+soft-reset-follows-requires : tie.Need-soft-reset-follows-requires
+soft-reset-follows-requires c κs = search needs
 
 same-length : tie.Need-same-length
 same-length c = search needs
 
 returns : tie.Need-returns
 returns c =
-    let at-goes-on = c .before .before in
-    let at-put-control = at-goes-on .before .before .before in
-    let at-if1 = at-put-control .before .before in
+    let at-follows = c .before .before in
+    let at-if1 = at-follows .before .before .before in
     let at-raises-a = at-if1 .before .before in
     let at-shows = at-raises-a .before in
     let at-over = at-shows .before in
     let entry = at-over .before .before in
     let h = over-noted (entry .args .self) (at-over .over .result) (at-shows .shows .result) (at-raises-a .raises-a .result) _ _ (at-over .over .ensures) (at-shows .shows .ensures) (at-raises-a .raises-a .ensures) in
-    rw (c .done .ensures)
-    (message-soft (entry .args .self) (at-raises-a .raises-a .result) _ _ h (at-if1 .if1 .taken) (entry .pre .1) (at-goes-on .goes-on .result) (at-goes-on .goes-on .ensures) (c .before .requests .result) (c .before .requests .ensures) _ _ (at-put-control .put-control .ensures))
+    message-soft (entry .args .self) (at-raises-a .raises-a .result) _ _ h (at-if1 .if1 .taken) _ _ (at-follows .soft-reset-follows .ensures)
 
-done-requires-2 : tie.Need-done-requires-2
-done-requires-2 c κs = search needs
+done-requires : tie.Need-done-requires
+done-requires c κs = search needs
 
 returns-2 : tie.Need-returns-2
 returns-2 c =
@@ -51,7 +40,7 @@ returns-2 c =
     let at-over = at-shows .before in
     let entry = at-over .before .before in
     let h = over-noted (entry .args .self) (at-over .over .result) (at-shows .shows .result) (c .before .before .before .raises-a .result) _ _ (at-over .over .ensures) (at-shows .shows .ensures) (c .before .before .before .raises-a .ensures) in
-    rw (c .done2 .ensures) (message-ends (entry .args .self) (c .before .before .before .raises-a .result) _ _ h (c .before .if1 .left))
+    rw (c .done .ensures) (message-ends (entry .args .self) (c .before .before .before .raises-a .result) _ _ h (c .before .if1 .left))
 
 pub message-fails-spec : {M : Type 1} → statement M
 message-fails-spec =
@@ -60,11 +49,8 @@ message-fails-spec =
     over-requires
     shows-requires
     raises-a-requires
-    put-control-requires
-    goes-on-requires
-    requests-requires
-    done-requires
+    soft-reset-follows-requires
     same-length
     returns
-    done-requires-2
+    done-requires
     returns-2)

@@ -1,5 +1,7 @@
 -- The Soft_Reset while that is in flight, else the message that the queue spells.
 use borrow.Author.Needs.{needs}
+use borrow.Author.Tests.{lt-ltb, le-ltb}
+use Rattle.line.specs.Kind.{sopKinds}
 use Rattle.machine.specs.Requests.{flightIn}
 use Rattle.fusb302.proofs.device.Device.put_flight.Statement.{statement}
 use Rattle.fusb302.proofs.device.Device.put_flight.Tie as tie
@@ -12,7 +14,8 @@ same-length c = search needs
 
 returns : tie.Need-returns
 unfolding flightIn
-returns c = rw (c .before .before .before .before .if1 .taken) (c .before .before .put-control .ensures)
+returns c =
+    rw (lt-ltb _ sopKinds (c .before .before .before .before .if1 .taken)) (c .before .before .put-control .ensures)
 
 put-message-requires : tie.Need-put-message-requires
 put-message-requires c κs = search needs
@@ -25,7 +28,7 @@ unfolding flightIn
 returns-2 c =
     let at-put-message = c .before .before in
     let at-if1 = at-put-message .before .before .before in
-    rw (at-if1 .if1 .left) (at-put-message .put-message .ensures)
+    rw (le-ltb _ sopKinds (at-if1 .if1 .left)) (at-put-message .put-message .ensures)
 
 pub put-flight-spec : {M : Type 1} → statement M
 put-flight-spec =
