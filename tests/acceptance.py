@@ -4,7 +4,7 @@
     tests/acceptance.py PROGRAM [PROGRAM..]
 
 Each tests/cases/NAME.in is run and what is printed compared with NAME.out, to the last character. A name says its rule.
-README's attach code is one case more.
+What README shows of two files of examples/, line by line beside the answers, is a case each.
 """
 import os
 import re
@@ -14,6 +14,8 @@ import sys
 ROOT = os.path.dirname(os.path.dirname(os.path.abspath(__file__)))
 CASES = os.path.join(ROOT, 'tests', 'cases')
 SECONDS = 20
+# Headings of README, the file that each shows, and from which line on.
+README = [('Attach code', 'attach.txt', 1), ('A plug that is silent', 'silent_plug.txt', 23)]
 
 
 def contents(path):
@@ -34,28 +36,38 @@ def cases():
     return {name: [contents(os.path.join(CASES, name + kind)) for kind in ('.in', '.out')] for name in names}
 
 
-def shown_in_readme():
-    """README's attach code, which shows a file of examples/ beside its answers, as a case."""
-    block = contents(os.path.join(ROOT, 'README.md')).decode().split('### Attach code')[1].split('```text\n')[1].split('```')[0]
-    lines = [re.split(' {2,}', line.split('#')[0].strip()) for line in block.splitlines()]
-    text, expected = [''.join(part + '\n' for part in parts).encode() for parts in (
-        [line[0] for line in lines], [line[1] for line in lines if len(line) > 1])]
-    if text != contents(os.path.join(ROOT, 'examples', 'attach.txt')):
-        sys.exit('acceptance: README shows another examples/attach.txt')
-    return text, expected
+def shown_in_readme(heading, example, first):
+    """A file of examples/, and the answers that README shows beside its lines from this one on; `..` stands for more symbols."""
+    section = contents(os.path.join(ROOT, 'README.md')).decode().split('### %s\n' % heading)[1].split('\n### ')[0]
+    lines = [re.split(' {2,}', line.split('#')[0].strip()) for line in section.split('```text\n')[-1].split('```')[0].splitlines()]
+    text = contents(os.path.join(ROOT, 'examples', example))
+    if [line[0].encode() for line in lines] != text.splitlines()[first - 1:]:
+        sys.exit('acceptance: README shows another examples/%s' % example)
+    return text, [line[1].encode() for line in lines if len(line) > 1]
+
+
+def answered(program, text):
+    """What the program prints, or how it ended if not by itself."""
+    try:
+        run = subprocess.run([program], input=text, capture_output=True, timeout=SECONDS)
+    except subprocess.TimeoutExpired:
+        return b'does not end within %d seconds' % SECONDS
+    return b'ended by signal %d' % -run.returncode if run.returncode < 0 else run.stdout
+
+
+def unlike_shown(program, text, shown):
+    """How the end of the program's answer differs from what README shows of it, or None."""
+    last = answered(program, text).splitlines()[-len(shown):]
+    given = [line[:len(due) - 2] + b'..' if due.endswith(b' ..') else line for line, due in zip(last, shown)]
+    return None if given == shown else 'its last lines are %s, in README %s' % (last, shown)
 
 
 def wrong(program, text, expected):
     """How the program's answer differs from what is expected, or None."""
-    try:
-        run = subprocess.run([program], input=text, capture_output=True, timeout=SECONDS)
-    except subprocess.TimeoutExpired:
-        return 'does not end within %d seconds' % SECONDS
-    if run.returncode < 0:
-        return 'ended by signal %d' % -run.returncode
-    if run.stdout == expected:
+    printed = answered(program, text)
+    if printed == expected:
         return None
-    given, due = run.stdout.split(b'\n'), expected.split(b'\n')
+    given, due = printed.split(b'\n'), expected.split(b'\n')
     at = next((n for n, (one, other) in enumerate(zip(given, due)) if one != other), min(len(given), len(due)))
     return 'output line %d is %s, expected %s' % (at + 1, *(lines[at] if at < len(lines) else 'missing' for lines in (given, due)))
 
@@ -64,10 +76,13 @@ def main():
     programs = sys.argv[1:]
     if not programs:
         sys.exit(__doc__)
-    every, failed = {**cases(), "README's attach code": shown_in_readme()}, 0
+    every = {name: (wrong, *case) for name, case in cases().items()}
+    for heading, example, first in README:
+        every['README, ' + heading] = (unlike_shown, *shown_in_readme(heading, example, first))
+    failed = 0
     for program in programs:
-        for name, (text, expected) in every.items():
-            found = wrong(program, text, expected)
+        for name, (differs, text, expected) in every.items():
+            found = differs(program, text, expected)
             if found:
                 failed += 1
                 print('acceptance: %s: %s: %s' % (program, name, found))

@@ -19,7 +19,8 @@ import time
 from collections import Counter
 from concurrent.futures import ProcessPoolExecutor
 
-from comparators import at_the_pins, due
+import comparators
+import soft_resets
 from texts import damaged, directed_lines, examples, extremes, in_form, joined
 
 FILES, EVENTS = 12, 100_000
@@ -29,8 +30,8 @@ SECONDS = 10
 NO_END = b'did not end'
 KEPT = os.path.join(os.path.dirname(os.path.dirname(os.path.abspath(__file__))), 'target', 'tests')
 
-# What the long texts have to bring about: every reply, each bit that a read can show, both set and clear, and at the comparators
-# what comparators.py says.
+# What the long texts have to bring about: every reply, each bit that a read can show, both set and clear, and what comparators.py
+# and soft_resets.py say.
 READ_BITS = {
     '02': 0xFF, '03': 0xF7, '04': 0x7F, '05': 0xFF, '06': 0x2E, '07': 0x73, '08': 0xEF, '09': 0x3F, '0A': 0xFF, '0B': 0x0F,
     '0D': 0x0F, '0E': 0xFF, '0F': 0x01, '10': 0x01, '3C': 0x33, '3D': 0x07, '3E': 0x3F, '3F': 0x01, '40': 0xBB, '41': 0xFC,
@@ -39,7 +40,8 @@ READ_BITS = {
 READS = {'r ' + address: address for address in READ_BITS}
 BITS = [(address, 1 << n) for address, bits in READ_BITS.items() for n in range(8) if bits >> n & 1]
 DUE = {'ok', 'INT_N 0', 'INT_N 1', 'frame of 4', *('frame of %d' % n for n in range(17, 74, 2)), *('no%d' % n for n in range(1, 12)),
-       *('%s: %02X %s' % (*bit, way) for bit in BITS for way in ('set', 'clear')), *due()}
+       *('%s: %02X %s' % (*bit, way) for bit in BITS for way in ('set', 'clear')),
+       *comparators.due(), *soft_resets.due()}
 
 
 def answers(command, seconds=SECONDS, **stdin):
@@ -115,7 +117,8 @@ def brought_about(setup, events, printed):
     for event, line in zip(events, lines[len(setup):]):
         if event in READS and line[:1] == '=':
             values[READS[event]][int(line[1:3], 16)] += 1
-    seen = Counter(at_the_pins(setup, events, lines))
+    seen = Counter(comparators.at_the_pins(setup, events, lines))
+    seen.update(soft_resets.with_soft_resets(setup, events, lines))
     for address, bit in BITS:
         for value, times in values[address].items():
             seen['%s: %02X %s' % (address, bit, 'set' if value & bit else 'clear')] += times

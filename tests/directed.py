@@ -1,8 +1,12 @@
 """Histories made for one rule of 01 or 02 each, by name: what random ones may miss. Events as in histories.py."""
-from histories import (BC_LVL_STEPS, CODES, MEAS_CC1, MEAS_CC2, MEAS_VBUS, PWR_MEASURE, SETS, VBUSOK_AT, VOLTAGE_MOST, cc_reference,
-                       vbus_reference, with_crc)
+from itertools import product
+
+from histories import (BC_LVL_STEPS, CODES, EVERY_KIND, KIND_ON, MEAS_CC1, MEAS_CC2, MEAS_VBUS, PWR_MEASURE, SETS, VBUSOK_AT,
+                       VOLTAGE_MOST, cc_reference, vbus_reference, with_crc)
 
 NAME = [0x4F, 0x10, 0x6C, 0xC3, 0xA1, 0x21]
+# A message that is its header alone, with MessageID 5.
+SENT, SENT_ID = [0x4F, 0x1A], 5
 HIGH = [VOLTAGE_MOST] * 3
 
 
@@ -18,9 +22,9 @@ def statuses():
     return [('r', address) for address in range(0x3C, 0x43)]
 
 
-def started(control3, kind=0, message=NAME):
+def started(control3, kind=0, message=NAME, switches1=0x25):
     """A message sent with these retries and resets, the driver on."""
-    return [('w', 0x03, 0x25), ('w', 0x09, control3)] + port(queue(kind, message)) + [('w', 0x43, 0xA1)]
+    return [('w', 0x03, switches1), ('w', 0x09, control3)] + port(queue(kind, message)) + [('w', 0x43, 0xA1)]
 
 
 def heard(kind, message):
@@ -108,20 +112,59 @@ def requests():
     return named
 
 
+def soft_resets():
+    """The Soft_Reset goes out on the kind of the message that failed (02, A2)."""
+    named = {}
+    for kind in range(1, 5):
+        for control3 in (0x08, 0x0D, 0x18, 0x1F):
+            retries = (control3 >> 1 & 3) * (control3 & 1)
+            waits = [('t', 1000)] * (retries + 1) + [('r', 0x3C), ('r', 0x3E)]
+            name = 'a message on kind %d to the end with 09 = %02X' % (kind, control3)
+            named[name] = started(control3, kind, SENT, 0xB5) + 2 * waits
+    other = [('w', 0x07, EVERY_KIND)] + heard(3, [0x43, 0x0A]) + [('t', 1000)] + heard(0, [0x43, 0x0A]) + [('t', 1000)] * 2
+    named['packets of other kinds in mid-request, a message on kind 2'] = started(0x0B, 2, SENT) + other + statuses()
+    for kind in (0, 3):
+        changed = [('w', 0x03, 0x52), ('t', 1000), ('w', 0x03, 0x00), ('t', 1000), ('w', 0x03, 0x15), ('t', 1000), ('t', 1000)]
+        named['03 changed in mid-request, a message on kind %d' % kind] = started(0x0B, kind, SENT, 0xF5) + changed + statuses()
+    return named
+
+
+def awaited_good_crcs():
+    """The GoodCRC that a request of each kind awaits, after those that it does not await or cannot hear."""
+    named = {}
+    for phase, awaited, waits in (('message', SENT_ID, 0), ('Soft_Reset', 0, 1)):
+        for kind in range(5):
+            name = 'the GoodCRC for a %s on kind %d, ' % (phase, kind)
+            ended = heard(kind, good_crc(awaited)) + statuses() + [('t', 1000), ('r', 0x3C)]
+            others = [pair for pair in product(range(5), (0, SENT_ID)) if pair != (kind, awaited)]
+            events = started(0x08, kind, SENT) + [('w', 0x07, EVERY_KIND)] + [('t', 1000)] * waits
+            events += [e for other, message_id in others for e in heard(other, good_crc(message_id))]
+            named[name + 'heard after all others'] = events + [('r', 0x3E), ('r', 0x41), ('w', 0x43, 0x12)] + ended
+            if kind == 0:
+                continue
+            # Sent again before it is heard.
+            events = started(0x1B, kind, SENT) + [('t', 1000)] * (2 * waits + 1) + [('w', 0x07, EVERY_KIND & ~KIND_ON[kind])]
+            events += heard(kind, good_crc(awaited)) + [('r', 0x3E), ('r', 0x41), ('r', 0x42)]
+            named[name + 'heard while the kind is off, then on'] = events + [('w', 0x07, KIND_ON[kind])] + ended
+            if phase == 'Soft_Reset':
+                named[name + 'heard while the kind is off'] = events + [('t', 1000)] + statuses()
+    return named
+
+
 def good_crcs():
-    sent = [0x4F, 0x1A]
     named = {}
     for phase, waits in (('message', []), ('Soft_Reset', [('t', 1000)])):
         for kind in range(5):
             for on in (0x00, 0x73):
-                for message_id in (0, 5):
+                for message_id in (0, SENT_ID):
                     name = 'GoodCRC of kind %d and MessageID %d for a %s on kind 2, 07 = %02X' % (kind, message_id, phase, on)
-                    named[name] = started(0x08, 2, sent) + [('w', 0x07, on)] + waits + heard(kind, good_crc(message_id)) + statuses()
+                    named[name] = started(0x08, 2, SENT) + [('w', 0x07, on)] + waits + heard(kind, good_crc(message_id)) + statuses()
     for more in (0x10, 0x8000, 0x8010, 0x1000):
-        named['GoodCRC with %04X set' % more] = started(0x00, 0, sent) + heard(0, good_crc(5, more)) + statuses()
+        named['GoodCRC with %04X set' % more] = started(0x00, 0, SENT) + heard(0, good_crc(SENT_ID, more)) + statuses()
         named['Soft_Reset with %04X set' % more] = heard(0, [0x0D | more & 255, more >> 8]) + statuses()
-    named['GoodCRC with octets behind it'] = started(0x00, 0, sent) + heard(0, good_crc(5) + [0, 0]) + statuses()
-    named['the awaited GoodCRC, Rx full'] = heard(0, [0] * 30) * 2 + started(0x00, 0, sent) + heard(0, good_crc(5)) * 2 + statuses()
+    named['GoodCRC with octets behind it'] = started(0x00, 0, SENT) + heard(0, good_crc(SENT_ID) + [0, 0]) + statuses()
+    full = heard(0, [0] * 30) * 2
+    named['the awaited GoodCRC, Rx full'] = full + started(0x00, 0, SENT) + heard(0, good_crc(SENT_ID)) * 2 + statuses()
     return named
 
 
@@ -256,7 +299,7 @@ def changes():
 def directed():
     """Every history by its name."""
     named = {}
-    for part in (every_address, command_bits, refusals, almost_messages, requests, good_crcs, packets, masks, not_built, thresholds,
-                 switches, changes):
+    for part in (every_address, command_bits, refusals, almost_messages, requests, soft_resets, awaited_good_crcs, good_crcs, packets,
+                 masks, not_built, thresholds, switches, changes):
         named.update(part())
     return named

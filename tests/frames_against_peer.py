@@ -25,6 +25,7 @@ ROOT = os.path.dirname(os.path.dirname(os.path.abspath(__file__)))
 EVENTS, FEWEST_FRAMES = 250_000, 10_000
 KINDS = set(range(HARD_RESET + 1))
 RECORDS, FEWEST_OF_EACH = 3_000, 50
+EXAMPLES = 2
 # Too little for the symbols of the long record, even at an octet each.
 LONG, KILOBYTES = 30_000_000, 8_192
 EMULATED = platform.machine() != 'x86_64'
@@ -135,13 +136,13 @@ def unlike(one, other, whose):
 
 
 def readme():
-    """The shell line that hands a run's symbols to frames, and what README.md says it prints."""
+    """The shell line that hands a run's symbols to frames, and what README.md says it prints of each example."""
     with open(os.path.join(ROOT, 'README.md'), encoding='utf-8') as page:
-        found = re.search(r'^    (\./bench (\S+) \| [^\n]* \| \./frames)$.*?^```text\n(.*?)^```$', page.read(), re.M | re.S)
-    if not found:
-        sys.exit('frames against peer: README.md has no shell line from ./bench to ./frames')
-    line, example, printed = found.groups()
-    return line.replace('./bench ' + example, '"$0" <"$2"').replace('./frames', '"$1"'), example, printed.encode()
+        found = re.findall(r'^    (\./bench (\S+) \| [^\n]* \| \./frames)$.*?^```text\n(.*?)^```$', page.read(), re.M | re.S)
+    lines = {line.replace('./bench ' + example, '"$0" <"$2"').replace('./frames', '"$1"') for line, example, _ in found}
+    if len(lines) != 1 or len(found) != EXAMPLES:
+        sys.exit('frames against peer: README.md does not show one shell line from ./bench to ./frames with %d examples' % EXAMPLES)
+    return lines.pop(), {example: printed.encode() for _, example, printed in found}
 
 
 def shell_line(bench, frames, line, path):
@@ -149,11 +150,12 @@ def shell_line(bench, frames, line, path):
 
 
 def sent_frames(bench, frames, peer, seed):
-    """What is wrong with the frames of README's example and of a long run, and of the run's frames how many each kind has."""
-    line, example, printed = readme()
-    shown = shell_line(bench, frames, line, os.path.join(ROOT, example))
-    if shown != printed:
-        return "README's shell line: " + unlike(shown, printed, 'in README'), None
+    """What is wrong with the frames of README's examples and of a long run, and of the run's frames how many each kind has."""
+    line, examples = readme()
+    for example, printed in examples.items():
+        shown = shell_line(bench, frames, line, os.path.join(ROOT, example))
+        if shown != printed:
+            return "README's shell line, %s: %s" % (example, unlike(shown, printed, 'in README')), None
     # The number of the bad line, 12, could pass for a symbol.
     for name, text in (('a bad line', b'0\n20\n' + b'h\n' * 9 + b'x\n'), ('nothing sent', b'1\n03 21\n2\nr 3E\nw 3E 00\n')):
         shown = shell_line(bench, frames, line, kept(name, text))

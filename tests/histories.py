@@ -1,6 +1,7 @@
 """Random histories of events for the device, seeded: messages of every octet value, almost-messages, retries to the end,
-resets, full FIFOs, masks, voltages about the thresholds, refused events. An event is a tuple: ('w', address, value),
-('r', address), ('t', microseconds), ('h',), ('p', kind, octets) or ('v', cc1, cc2, vbus) in millivolts."""
+Soft_Resets and what is heard after them, resets, full FIFOs, masks, voltages about the thresholds, refused events. An event
+is a tuple: ('w', address, value), ('r', address), ('t', microseconds), ('h',), ('p', kind, octets) or
+('v', cc1, cc2, vbus) in millivolts."""
 import zlib
 
 SETS = [
@@ -11,6 +12,9 @@ SETS = [
     [0x12, 0x16, 0x1B, 0x13],
 ]
 TOKENS = [0x12, 0x13, 0x1B, 0x15, 0x16, 0x82, 0x84, 0x9E, 0xFF, 0x14, 0xFE]
+# The bit of 07 that turns each kind on; SOP always is.
+KIND_ON = [0x00, 0x01, 0x02, 0x20, 0x40]
+EVERY_KIND = sum(KIND_ON)
 
 # The comparators (02, A1), in millivolts; an MDAC code has one reference for the CC pins and one for VBUS.
 BC_LVL_STEPS, VBUSOK_AT, VOLTAGE_MOST = (200, 660, 1230), 4000, 65535
@@ -86,6 +90,40 @@ class Histories:
             yield 'w', 0x07, 0x73
         yield 'p', kind, octets
 
+    def kinds_on(self):
+        """07 with every kind on, with one of them off, or with none on; at times Rx empties."""
+        return 'w', 0x07, self.rng.choice([0x00, 0x04 | EVERY_KIND] + [EVERY_KIND & ~bit for bit in KIND_ON])
+
+    def unanswered(self):
+        """A message that nobody answers while 03 changes, up to its Soft_Reset, and then GoodCRCs while 07 changes."""
+        rng = self.rng
+        self.kind = rng.randrange(5)
+        retries = rng.choice([0, 0, 1, 2])
+        yield 'w', 0x06, rng.choice([0x44, 0x64])
+        yield 'w', 0x03, rng.choice([0x01, 0x02]) | rng.randrange(256) & 0xF4
+        yield 'w', 0x09, rng.choice([0x08, 0x18]) | retries << 1 | (retries > 0)
+        yield self.kinds_on()
+        for octet in SETS[self.kind] + [0x82, self.octet(), self.octet(), 0xFF, 0x14, 0xFE, 0xA1]:
+            yield 'w', 0x43, octet
+        for _ in range(retries + 1):
+            if rng.random() < 0.3:
+                yield 'w', 0x03, rng.randrange(256)
+            yield 't', 1000
+        # The Soft_Reset's GoodCRC is awaited from here on.
+        self.message_id = 0
+        for _ in range(rng.randrange(1, 5)):
+            if rng.random() < 0.3:
+                yield 't', rng.choice([1000, 1000, 999, rng.randrange(1001)])
+            if rng.random() < 0.4:
+                yield self.kinds_on()
+            yield 'r', 0x3E
+            kind = rng.choice([self.kind] * 4 + [*range(5)])
+            yield 'p', kind, with_crc([rng.choice([0x01, 0x41, 0x61]), rng.choice([0, 0, 0, rng.randrange(8)]) << 1])
+            yield rng.choice([('r', 0x3E), ('r', 0x3E), ('w', 0x43, 0x12)])
+        for _ in range(rng.randrange(3)):
+            yield 't', 1000
+        yield 'r', 0x3C
+
     def set_up(self):
         """CC1, CC2 or VBUS is measured, and nothing else."""
         rng = self.rng
@@ -145,8 +183,10 @@ class Histories:
             yield from self.measured()
             return
         choice = rng.random()
-        if choice < 0.25:
+        if choice < 0.15:
             yield from self.send()
+        elif choice < 0.25:
+            yield from self.unanswered()
         elif choice < 0.45:
             yield from self.hear()
         elif choice < 0.55:

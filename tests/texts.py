@@ -12,7 +12,7 @@ from histories import SETS, TOKENS, Histories, as_line
 
 PORT = ['w 43 %02X' % octet for octet in range(256)]
 STATUSES = ['r %02X' % address for address in range(0x3C, 0x43)]
-DRIVER_ON = [0x21, 0x22, 0x25, 0x26, 0x65, 0xB5, 0xF6]
+DRIVER_ON = [0x21, 0x22, 0x25, 0x26, 0x65, 0x91, 0xB5, 0xD2, 0xF6]
 LENGTHS = [2, 2, 2, 6, 10, 14, 30]
 RX_CAPACITY, TX_CAPACITY = 80, 48
 
@@ -46,7 +46,7 @@ class Term(Histories):
         lines += ['t %d' % rng.choice([1000, 1000, 999, 300, 1]) for _ in range(rng.choice([0, 0, 1, 2, 5]))]
         lines.append(packet(self.kind, bytes([1, self.message_id << 1])))
         if rng.random() < 0.3:
-            lines.append(packet(0, b'\x41\0'))
+            lines.append(packet(rng.choice([0, self.kind]), b'\x41\0'))
         return lines + rng.sample(STATUSES, 3)
 
     def worn_out(self):
@@ -109,12 +109,16 @@ class Term(Histories):
             lines += ['r 42', as_line(self.touched()), 'r 42', 'r 40']
         return lines
 
+    def soft_reset_awaited(self):
+        """A message that nobody answers, its Soft_Reset, and GoodCRCs for that and for others."""
+        return [as_line(event) for event in self.unanswered()]
+
     def any_part(self):
         return [as_line(event) for event in self.some()]
 
     def lines(self, count):
         parts = [self.any_part] * 8 + [self.acknowledged] * 6 + [self.worn_out] * 4 + [self.heard] * 4
-        parts += [self.pins_measured] * 3 + [self.masks] * 2 + [self.registers, self.filled_rx, self.filled_tx]
+        parts += [self.soft_reset_awaited] * 3 + [self.pins_measured] * 3 + [self.masks] * 2 + [self.registers, self.filled_rx, self.filled_tx]
         lines = []
         while len(lines) < count:
             lines += self.rng.choice(parts)()

@@ -1,5 +1,5 @@
-//! The device: registers, FIFOs, the open request, time and packets (01 'Registers' to 'Numbers of no'), and the comparators
-//! on the pins (02, A1).
+//! The device: registers, FIFOs, the open request, time and packets (01 'Registers' to 'Numbers of no'), the comparators on
+//! the pins (02, A1), and the Soft_Reset on the kind that was silent (02, A2).
 
 use crate::line::{crc32, Control, Frame, Header, Kind, Roles, CRC_LENGTH};
 use crate::pins::{MdacCode, Millivolts, Pins};
@@ -352,9 +352,10 @@ struct Request {
     auto_softreset: bool,
     auto_hardreset: bool,
     phase: Phase,
-    /// The frame in flight and the GoodCRC it awaits.
-    frame: Frame,
+    /// The kind of the message, and of the Soft_Reset that follows it (02, A2).
     kind: Kind,
+    /// The frame in flight, and the MessageID of the GoodCRC it awaits.
+    frame: Frame,
     message_id: u8,
     retries_sent: u8,
     microseconds_waited: u32,
@@ -729,8 +730,8 @@ impl Device {
             auto_softreset: self.has(CONTROL3, AUTO_SOFTRESET),
             auto_hardreset: self.has(CONTROL3, AUTO_HARDRESET),
             phase: Phase::Message,
-            frame: line.clone(),
             kind,
+            frame: line.clone(),
             message_id: Header::of(message[0], message[1]).message_id(),
             retries_sent: 0,
             microseconds_waited: 0,
@@ -755,12 +756,11 @@ impl Device {
                 self.status0a |= RETRYFAIL;
                 self.tx.clear();
                 if request.auto_softreset {
-                    let roles = roles(request.switches1, Kind::Sop);
+                    let roles = roles(request.switches1, request.kind);
                     let soft_reset = Header::control(Control::SoftReset, roles, 0);
-                    line.write_message(Kind::Sop, &soft_reset.octets());
+                    line.write_message(request.kind, &soft_reset.octets());
                     request.phase = Phase::SoftReset;
                     request.frame.clone_from(line);
-                    request.kind = Kind::Sop;
                     request.message_id = 0;
                     request.retries_sent = 0;
                 } else {
@@ -1223,21 +1223,122 @@ mod tests {
         assert_eq!(bench.read(STATUS0A), 0);
     }
 
-    #[test]
-    fn soft_reset_awaits_message_id_0_on_sop() {
-        let mut bench = Bench::new(&[(SWITCHES1, 0x21), (CONTROL3, 0x08), (CONTROL1, 0x01)]);
-        bench.fill(&[0x12, 0x12, 0x1B, 0x1B, 0x82, 0x41, 0x06, 0xFF, 0x14, 0xFE]);
+    /// Every kind with its tokens and the bit of Control1 that enables it.
+    const KINDS: [(Kind, [u8; 4], u8); 5] = [
+        (Kind::Sop, [0x12, 0x12, 0x12, 0x13], 0x00),
+        (Kind::Sop1, [0x12, 0x12, 0x1B, 0x1B], ENSOP1),
+        (Kind::Sop2, [0x12, 0x1B, 0x12, 0x1B], ENSOP2),
+        (Kind::Sop1Db, [0x12, 0x16, 0x16, 0x1B], ENSOP1DB),
+        (Kind::Sop2Db, [0x12, 0x16, 0x1B, 0x13], ENSOP2DB),
+    ];
+    const EVERY_KIND: u8 = ENSOP1 | ENSOP2 | ENSOP1DB | ENSOP2DB;
+
+    /// A message with MessageID 5, sent on the kind of this set and not answered, up to its Soft_Reset.
+    fn unanswered(set: [u8; 4], switches1: u8, control3: u8) -> Bench {
+        let mut bench = Bench::new(&[(SWITCHES1, switches1), (CONTROL3, control3)]);
+        bench.fill(&set);
+        bench.fill(&[0x82, 0x42, 0x0A, 0xFF, 0x14, 0xFE]);
         assert_eq!(bench.write(FIFOS, 0xA1), Ok(()));
-        bench.hear(0, &[0x41, 0x06]);
-        assert!(bench.device.request.is_some());
-        assert_eq!((bench.pass(1_000), bench.sent()), (Ok(()), 17));
-        bench.hear(1, &[0x41, 0x06]);
-        bench.hear(0, &[0x41, 0x06]);
-        assert!(bench.device.request.is_some());
+        while bench.device.interrupta & I_RETRYFAIL == 0 {
+            assert_eq!((bench.pass(1_000), bench.sent()), (Ok(()), 17));
+        }
+        bench
+    }
+
+    #[test]
+    fn soft_reset_and_its_retries_go_out_on_the_kind_of_the_message() {
+        for (kind, set, _) in KINDS {
+            let mut bench = unanswered(set, 0x21, 0x1D);
+            // What is enabled counts for what is heard alone.
+            for control1 in [EVERY_KIND, 0x00, EVERY_KIND] {
+                let soft_reset = frame_of(kind, &[0x4D, 0x00]);
+                assert_eq!(bench.line.symbols(), soft_reset.symbols());
+                assert_eq!(bench.write(CONTROL1, control1), Ok(()));
+                assert_eq!(bench.pass(1_000), Ok(()));
+            }
+            assert_eq!(bench.line.symbols(), [0x07, 0x07, 0x07, 0x19]);
+            assert_eq!(bench.read(STATUS0A), SOFTFAIL | RETRYFAIL);
+            assert!(bench.device.request.is_none());
+        }
+    }
+
+    #[test]
+    fn packet_of_another_kind_does_not_move_the_soft_reset() {
+        let mut bench = Bench::started(0x08);
+        assert_eq!(bench.write(CONTROL1, EVERY_KIND), Ok(()));
+        bench.hear(4, &[0x42, 0x0A]);
+        assert_eq!(bench.pass(1_000), Ok(()));
+        let soft_reset = frame_of(Kind::Sop, &[0x4D, 0x00]);
+        assert_eq!(bench.line.symbols(), soft_reset.symbols());
+        bench.hear(4, &[0x41, 0x00]);
+        assert_eq!(bench.read(INTERRUPTA), I_RETRYFAIL);
         bench.hear(0, &[0x41, 0x00]);
-        assert!(bench.device.request.is_none());
-        assert_eq!(bench.read(INTERRUPTA), I_RETRYFAIL | I_TXSENT);
-        assert_eq!(bench.read(STATUS0A), RETRYFAIL);
+        assert_eq!(bench.read(INTERRUPTA), I_TXSENT);
+    }
+
+    #[test]
+    fn soft_reset_has_the_latched_revision_and_on_sop_the_latched_roles() {
+        for (switches1, on_sop, elsewhere) in [
+            (0xF5, [0xED, 0x01], [0xCD, 0x00]),
+            (0x91, [0x2D, 0x01], [0x0D, 0x00]),
+            (0xA2, [0x4D, 0x01], [0x4D, 0x00]),
+            (0x52, [0xAD, 0x00], [0x8D, 0x00]),
+        ] {
+            for (kind, set, _) in KINDS {
+                let mut bench = unanswered(set, switches1, 0x0B);
+                let header = if kind == Kind::Sop { on_sop } else { elsewhere };
+                let soft_reset = frame_of(kind, &header);
+                assert_eq!(bench.line.symbols(), soft_reset.symbols());
+                assert_eq!(bench.write(SWITCHES1, !switches1), Ok(()));
+                assert_eq!(bench.pass(1_000), Ok(()));
+                assert_eq!(bench.line.symbols(), soft_reset.symbols());
+            }
+        }
+    }
+
+    #[test]
+    fn soft_reset_awaits_message_id_0_on_its_own_kind() {
+        for (kind, set, bit) in KINDS {
+            let mut bench = unanswered(set, 0x25, 0x0B);
+            assert_eq!((bench.pass(1_000), bench.sent()), (Ok(()), 17));
+            assert_eq!(bench.write(CONTROL1, EVERY_KIND), Ok(()));
+            for (other, ..) in KINDS {
+                bench.hear(other as u32, &[0x41, 0x0A]);
+                if other != kind {
+                    bench.hear(other as u32, &[0x41, 0x00]);
+                }
+                assert_eq!(bench.sent(), 0);
+            }
+            assert_eq!(bench.device.rx.held(), 9 * 7);
+            assert_eq!(bench.read(INTERRUPTA), I_RETRYFAIL);
+            if kind != Kind::Sop {
+                // Off when it is heard, and then nothing changes (01 'Packets heard').
+                bench.read(INTERRUPT);
+                assert_eq!(bench.write(CONTROL1, EVERY_KIND & !bit), Ok(()));
+                bench.hear(kind as u32, &[0x41, 0x00]);
+                assert_eq!((bench.read(INTERRUPT), bench.read(INTERRUPTA)), (0, 0));
+                assert_eq!(bench.device.rx.held(), 9 * 7);
+                assert_eq!(bench.write(CONTROL1, bit), Ok(()));
+            }
+            assert!(bench.device.request.is_some());
+            bench.hear(kind as u32, &[0x41, 0x00]);
+            assert!(bench.device.request.is_none());
+            assert_eq!(bench.read(INTERRUPTA), I_TXSENT);
+            assert_eq!(bench.read(STATUS0A), RETRYFAIL);
+        }
+    }
+
+    #[test]
+    fn soft_reset_answered_while_its_kind_is_off_runs_out() {
+        for (kind, set, bit) in &KINDS[1..] {
+            let mut bench = unanswered(*set, 0x21, 0x08);
+            assert_eq!(bench.write(CONTROL1, EVERY_KIND & !bit), Ok(()));
+            bench.hear(*kind as u32, &[0x41, 0x00]);
+            assert_eq!((bench.pass(1_000), bench.sent()), (Ok(()), 0));
+            assert_eq!(bench.read(INTERRUPTA), I_RETRYFAIL | I_SOFTFAIL);
+            assert_eq!(bench.read(STATUS0A), SOFTFAIL | RETRYFAIL);
+            assert_eq!((bench.read(INTERRUPT), bench.device.rx.held()), (0, 0));
+        }
     }
 
     #[test]

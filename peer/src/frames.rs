@@ -214,15 +214,15 @@ mod tests {
         ]
         .map(|octet: u8| format!("w 43 {octet:02X}\n"))
         .concat();
-        // Two retries, a Soft_Reset with two of its own, a Hard Reset; then one that was asked for.
+        // Two retries, a Soft_Reset on SOP' with two of its own, a Hard Reset; then one that was asked for.
         let events = format!("{queue}w 43 A1\n{}w 09 40\n", "t 1000\n".repeat(7));
         let frames = [
             format!("0 1 {NAME_OCTETS}"),
             format!("25 1 {NAME_OCTETS}"),
             format!("50 1 {NAME_OCTETS}"),
-            "75 0 4D 00 B7 23 0E 04".to_string(),
-            "92 0 4D 00 B7 23 0E 04".to_string(),
-            "109 0 4D 00 B7 23 0E 04".to_string(),
+            "75 1 4D 00 B7 23 0E 04".to_string(),
+            "92 1 4D 00 B7 23 0E 04".to_string(),
+            "109 1 4D 00 B7 23 0E 04".to_string(),
             "126 5 -".to_string(),
             "130 5 -".to_string(),
         ];
