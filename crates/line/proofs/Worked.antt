@@ -1,6 +1,11 @@
 -- The worked examples, computed.
 -- Assumes nothing.
 use mathlib.Core.Path.{refl}
+use mathlib.Core.Bool.{Bool}
+use Prim.Native.Nat.{ℕ}
+use lib.Dec.{eqb, eqb→eq}
+use lib.ListN.{getD}
+use Rattle.line.proofs.Table.{at}
 use Rattle.line.specs.Symbol.{symbolOf, placeOf, nibbleOf, isNibble, encoded, octetsOf}
 use Rattle.line.specs.Kind.{setOf, carries, common, kindFrom}
 use Rattle.line.specs.Crc.{poly, crcBit, crcBits, crcOctet, crcFrom, crcOf, fourOctets, withCrc, number, crcRight}
@@ -8,12 +13,16 @@ use Rattle.line.specs.Frame.{drawn, sealed, symbolsOf}
 use Rattle.line.specs.Refusal.{firstNo}
 use Rattle.line.specs.Read.{furthest, setOr, setAt, nibbleRun, mayEnd, endOr, bodyAt, withSet, afterSet, shapeAt, checked, firstOf, first}
 use Rattle.line.specs.Reader.{saysOf}
-use Rattle.line.specs.Examples.{Examples}
+use Rattle.line.specs.Examples.{nibblesOfSymbols, Examples}
+
+isListed : ℕ → Bool
+isListed s = eqb (nibbleOf s) (getD nibblesOfSymbols s 16)
 
 pub examples : Examples
-unfolding symbolOf placeOf nibbleOf isNibble encoded octetsOf setOf carries poly crcBit crcBits crcOctet crcFrom crcOf fourOctets withCrc drawn sealed symbolsOf firstNo common kindFrom furthest setOr setAt nibbleRun mayEnd endOr bodyAt withSet afterSet shapeAt number crcRight checked firstOf first saysOf
+unfolding isListed symbolOf placeOf nibbleOf isNibble encoded octetsOf setOf carries poly crcBit crcBits crcOctet crcFrom crcOf fourOctets withCrc drawn sealed symbolsOf firstNo common kindFrom furthest setOr setAt nibbleRun mayEnd endOr bodyAt withSet afterSet shapeAt number crcRight checked firstOf first saysOf
 examples =
     record {
+      every-octet = λ s h. eqb→eq (nibbleOf s) (getD nibblesOfSymbols s 16) (at isListed 256 tt s h);
       nothing = refl;
       no-set = refl;
       eop-after-half = refl;

@@ -3,10 +3,10 @@
 use mathlib.Core.Path.{_≡_}
 use mathlib.Core.List.{List, [], _∷_, _++_}
 use mathlib.Core.Option.{some}
-use Prim.Native.Nat.{ℕ}
-use lib.ListN.{length, take, drop, replicate}
+use Prim.Native.Nat.{ℕ, _<_}
+use lib.ListN.{length, getD, take, drop, replicate}
 use Rattle.line.specs.declared.read.Answer.{Answer}
-use Rattle.line.specs.Symbol.{eop}
+use Rattle.line.specs.Symbol.{eop, nibbleOf}
 use Rattle.line.specs.Kind.{setOf}
 use Rattle.line.specs.Crc.{crcOf}
 use Rattle.line.specs.Frame.{Frame, symbolsOf}
@@ -27,7 +27,16 @@ started n = setOf 0 ++ replicate n 0x1E
 abbrev pub tank : Frame
 tank = record { kind = 0; octets = 0x4F ∷ 0x10 ∷ 0x6C ∷ 0xC3 ∷ 0xA1 ∷ 0x21 ∷ [] }
 
+-- the nibbles of the symbols 0 to 31, 16 where there is none
+abbrev pub nibblesOfSymbols : List ℕ
+nibblesOfSymbols =
+    16 ∷ 16 ∷ 16 ∷ 16 ∷ 16 ∷ 16 ∷ 16 ∷ 16 ∷
+    16 ∷ 0x1 ∷ 0x4 ∷ 0x5 ∷ 16 ∷ 16 ∷ 0x6 ∷ 0x7 ∷
+    16 ∷ 16 ∷ 0x8 ∷ 0x9 ∷ 0x2 ∷ 0x3 ∷ 0xA ∷ 0xB ∷
+    16 ∷ 16 ∷ 0xC ∷ 0xD ∷ 0xE ∷ 0xF ∷ 0x0 ∷ 16 ∷ []
+
 pub record Examples : Type 0 where
+  pub every-octet : (s : ℕ) → s < 256 → nibbleOf s ≡ getD nibblesOfSymbols s 16
   pub nothing : readingOf [] ≡ noAt 14 0
   pub no-set : readingOf (0x18 ∷ 0x18 ∷ 0x11 ∷ []) ≡ noAt 13 2
   pub eop-after-half : readingOf (started 13 ++ (eop ∷ [])) ≡ noAt 13 17
