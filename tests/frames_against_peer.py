@@ -4,8 +4,9 @@
     tests/frames_against_peer.py BENCH FRAMES PEER [SEED]
 
 What a long run of the bench sends, through the shell line of README.md, against the frames that the peer's device says it sent;
-3,000 records of frames, most of them damaged; the edges by name; 30 MB of frames in little memory; input that comes slowly, in
-pieces or not at all, and output that is closed or full. A record on which the two differ is kept under target/tests/.
+3,000 records of frames, most of them damaged; the edges by name; each of the 256 octets in a nibble's place; 30 MB of frames in
+little memory; input that comes slowly, in pieces or not at all, and output that is closed or full. A record on which the two
+differ is kept under target/tests/.
 """
 import os
 import platform
@@ -18,7 +19,7 @@ from collections import Counter
 from concurrent.futures import ThreadPoolExecutor
 
 from bench_against_peer import KEPT, NO_END, SECONDS, answers, awaited, first_difference, in_pieces, kept, left_open, output_endings
-from records import HARD_RESET, long_record, record
+from records import EOP, HARD_RESET, NIBBLES, SETS, as_text, long_record, nibbles, record, with_crc
 from texts import in_form, joined
 
 ROOT = os.path.dirname(os.path.dirname(os.path.abspath(__file__)))
@@ -127,6 +128,18 @@ EDGES = {
 }
 
 
+def every_octet():
+    """Input and output by name: a message with each octet in place of its first or second nibble."""
+    for half, place in enumerate(('first', 'second')):
+        for symbol in range(256):
+            nibble = NIBBLES.find(symbol)
+            octets = with_crc(bytes([max(nibble, 0) << 4 * half, 0]))
+            symbols = [*SETS[0], *nibbles(octets), EOP]
+            symbols[4 + half] = symbol
+            due = 'no13 %d\n' % (4 + half) if nibble < 0 else '0 0 %s\n' % as_text(octets).decode()
+            yield '%02X for its %s nibble' % (symbol, place), (as_text(symbols).decode(), due)
+
+
 def unlike(one, other, whose):
     """How what was printed differs from what is due."""
     lines = one.split(b'\n'), other.split(b'\n')
@@ -206,9 +219,9 @@ def damaged_records(frames, peer, seed):
     return None, ends
 
 
-def edges(frames, peer):
-    """What is wrong on the first edge that either program gets wrong."""
-    for name, (text, due) in EDGES.items():
+def edges(frames, peer, cases):
+    """What is wrong on the first case that either program gets wrong."""
+    for name, (text, due) in cases.items():
         for program, command in (('frames', [frames]), ('the peer', [peer, 'frames'])):
             printed = answers(command, input=text.encode('latin-1'))
             if printed != due.encode():
@@ -273,7 +286,8 @@ def main():
     os.makedirs(KEPT, exist_ok=True)
     unsent, kinds = sent_frames(bench, frames, peer, seed)
     differing, ends = damaged_records(frames, peer, seed)
-    wrong = [one for one in (edges(frames, peer), unsent, differing) if one]
+    octets = dict(every_octet())
+    wrong = [one for one in (edges(frames, peer, EDGES | octets), unsent, differing) if one]
     resets = (RESET + '\n').encode() * 50_000
     endings = (*little_memory(frames, seed), *slow_input(frames), *input_endings(frames, seed), *output_endings(frames, resets, resets))
     wrong += ['frames ' + one for one in endings]
@@ -284,6 +298,8 @@ def main():
     print('frames against peer: {:,} frames of {:,} events as the device sent them, {} edges, {} MB in {} of memory'.format(
         sum(kinds.values()), EVENTS, len(EDGES), LONG // 1_000_000,
         'any amount' if EMULATED else '%d kB' % KILOBYTES))
+    print('frames against peer: {} octets in a nibble\'s place, {} of them read'.format(
+        len(octets), sum(due.startswith('0 0 ') for _, due in octets.values())))
     ways = ', '.join('{:,} {}'.format(ends[end], end) for end in sorted(ends))
     print('frames against peer: {:,} records ({}) agree, seed {}, {:.0f} s'.format(RECORDS, ways, seed, time.monotonic() - started))
 
