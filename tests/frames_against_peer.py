@@ -137,7 +137,7 @@ def every_octet():
             symbols = [*SETS[0], *nibbles(octets), EOP]
             symbols[4 + half] = symbol
             due = 'no13 %d\n' % (4 + half) if nibble < 0 else '0 0 %s\n' % as_text(octets).decode()
-            yield '%02X for its %s nibble' % (symbol, place), (as_text(symbols).decode(), due)
+            yield 'a message with %02X for its %s nibble' % (symbol, place), (as_text(symbols).decode(), due)
 
 
 def unlike(one, other, whose):
@@ -219,7 +219,7 @@ def damaged_records(frames, peer, seed):
     return None, ends
 
 
-def edges(frames, peer, cases):
+def misread(frames, peer, cases):
     """What is wrong on the first case that either program gets wrong."""
     for name, (text, due) in cases.items():
         for program, command in (('frames', [frames]), ('the peer', [peer, 'frames'])):
@@ -287,7 +287,7 @@ def main():
     unsent, kinds = sent_frames(bench, frames, peer, seed)
     differing, ends = damaged_records(frames, peer, seed)
     octets = dict(every_octet())
-    wrong = [one for one in (edges(frames, peer, EDGES | octets), unsent, differing) if one]
+    wrong = [one for one in (misread(frames, peer, EDGES | octets), unsent, differing) if one]
     resets = (RESET + '\n').encode() * 50_000
     endings = (*little_memory(frames, seed), *slow_input(frames), *input_endings(frames, seed), *output_endings(frames, resets, resets))
     wrong += ['frames ' + one for one in endings]
@@ -298,7 +298,7 @@ def main():
     print('frames against peer: {:,} frames of {:,} events as the device sent them, {} edges, {} MB in {} of memory'.format(
         sum(kinds.values()), EVENTS, len(EDGES), LONG // 1_000_000,
         'any amount' if EMULATED else '%d kB' % KILOBYTES))
-    print('frames against peer: {} octets in a nibble\'s place, {} of them read'.format(
+    print("frames against peer: {} messages with each octet in a nibble's place, {} of them read".format(
         len(octets), sum(due.startswith('0 0 ') for _, due in octets.values())))
     ways = ', '.join('{:,} {}'.format(ends[end], end) for end in sorted(ends))
     print('frames against peer: {:,} records ({}) agree, seed {}, {:.0f} s'.format(RECORDS, ways, seed, time.monotonic() - started))

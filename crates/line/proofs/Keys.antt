@@ -14,6 +14,7 @@ abbrev pub None : Type 0 → List ℕ → ℕ → Type 0
 None N [] x = N
 None N (k ∷ ks) x = None (N × (x ≡ k → ⊥)) ks x
 
+-- what was known before the keys
 pub known : (N : Type 0) (ks : List ℕ) (x : ℕ) → None N ks x → N
 known N [] x h = h
 known N (k ∷ ks) x h = known (N × (x ≡ k → ⊥)) ks x h .0
