@@ -1,4 +1,4 @@
-// The 4b5b symbols of nibbles, in the order of PD's page (01, 'Line code (PD)').
+// The 4b5b symbols, in the order of PD's page (01, 'Line code (PD)').
 ghost use mathlib.Core.Path.{_≡_};
 ghost use Prim.Native.Nat.{_<_};
 ghost use Rattle.line.specs.Symbol.{symbolOf, nibbleOf};
