@@ -4,9 +4,10 @@
     tests/frames_against_peer.py BENCH FRAMES PEER [SEED]
 
 What a long run of the bench sends, through the shell line of README.md, against the frames that the peer's device says it sent;
-3,000 records of frames, most of them damaged; the edges by name; each of the 256 octets in a nibble's place; 30 MB of frames in
-little memory; input that comes slowly, in pieces or not at all, and output that is closed or full. A record on which the two
-differ is kept under target/tests/.
+3,000 records of frames, most of them damaged; 1,000 in whose sets one or two symbols are wrong; every four of seven symbols in
+the place of a set; the edges by name, and the record that README.md shows; each of the 256 octets in a nibble's place; 30 MB of
+frames in little memory; input that comes slowly, in pieces or not at all, and output that is closed or full. A record on which the
+two differ is kept under target/tests/.
 """
 import os
 import platform
@@ -17,15 +18,17 @@ import sys
 import time
 from collections import Counter
 from concurrent.futures import ThreadPoolExecutor
+from itertools import product
 
 from bench_against_peer import KEPT, NO_END, SECONDS, answers, awaited, first_difference, in_pieces, kept, left_open, output_endings
-from records import EOP, HARD_RESET, NIBBLES, SETS, as_text, long_record, nibbles, record, with_crc
+from records import CODES, EOP, HARD_RESET, NIBBLES, SETS, as_text, kinds_near, long_record, nibbles, record, spoilt_sets, with_crc
 from texts import in_form, joined
 
 ROOT = os.path.dirname(os.path.dirname(os.path.abspath(__file__)))
 EVENTS, FEWEST_FRAMES = 250_000, 10_000
 KINDS = set(range(HARD_RESET + 1))
 RECORDS, FEWEST_OF_EACH = 3_000, 50
+SPOILT, FEWEST_NEAR = 1_000, 30
 EXAMPLES = 2
 # Too little for the symbols of the long record, even at an octet each.
 LONG, KILOBYTES = 30_000_000, 8_192
@@ -77,24 +80,47 @@ EDGES = {
     'a sign': ('+8', 'bad octet 1\n'),
     'one symbol': ('18', 'no14 1\n'),
     'one symbol and a line end': ('18\n', 'no14 1\n'),
-    'a symbol that begins nothing': ('00', 'no13 0\n'),
-    'a symbol above 31': ('20', 'no13 0\n'),
-    'the highest octet': ('FF', 'no13 0\n'),
-    'EOP alone': ('0D', 'no13 0\n'),
-    'no ordered set': ('18 18 11', 'no13 2\n'),
-    'no ordered set, out of form behind it': ('18 18 11x', 'no13 2\n'),
-    'no ordered set, and a space at the end': ('18 18 11 ', 'no13 2\n'),
-    'no ordered set, a symbol out of form before': ('18 1x 11', 'bad octet 2\n'),
-    'an ordered set wrong in its last symbol': ('18 19 06 06', 'no13 3\n'),
-    'a Hard Reset wrong in its last symbol': ('07 07 07 07', 'no13 3\n'),
-    'a Cable Reset': ('07 18 07 06', 'no13 1\n'),
+    'a symbol that no set has': ('00', 'no14 1\n'),
+    'a symbol above 31': ('20', 'no14 1\n'),
+    'the highest octet': ('FF', 'no14 1\n'),
+    'EOP alone': ('0D', 'no14 1\n'),
+    'two symbols': ('18 18', 'no14 2\n'),
+    'two symbols above 31': ('A1 C3', 'no14 2\n'),
+    'three symbols': ('18 18 11', 'no14 3\n'),
+    'three symbols above 31': ('FF FF FF\n', 'no14 3\n'),
+    'three symbols, out of form behind them': ('18 18 11x', 'bad octet 4\n'),
+    'three symbols, and a space at the end': ('18 18 11 ', 'bad octet 4\n'),
+    'three symbols, one of them out of form': ('18 1x 11', 'bad octet 2\n'),
+    "near SOP, SOP' and SOP''_Debug": ('18 18 06 11', 'no13 0\n'),
+    "near SOP', SOP'_Debug and SOP''_Debug": ('18 19 06 06', 'no13 0\n'),
+    "near SOP, SOP' and SOP'': a message behind it": ('18 18 18 06 ' + GOOD_CRC, 'no13 0\n'),
+    'near no set': ('18 07 07 18', 'no13 0\n'),
+    'near no set, out of form behind it': ('18 07 07 18x', 'no13 0\n'),
+    'near no set, and a space at the end': ('18 07 07 18 ', 'no13 0\n'),
+    'four symbols above 31': ('FF FF FF FF', 'no13 0\n'),
+    'a Cable Reset': ('07 18 07 06', 'no13 0\n'),
+    'a Hard Reset wrong in its first symbol': ('18 07 07 19', '0 5~ -\n'),
+    'a Hard Reset wrong in its last symbol': ('07 07 07 07', '0 5~ -\n'),
+    'a Hard Reset with an accented letter in it': ('07 A1 07 19', '0 5~ -\n'),
+    'a Hard Reset wrong in two symbols': ('07 A1 C3 19', 'no13 0\n'),
+    'a message on SOP with a wrong first symbol': ('1E 18 18 11 ' + GOOD_CRC, '0 0~ %s\n' % GOOD_CRC_OCTETS),
+    "a message on SOP' with a wrong second symbol": ('18 0D 06 06 ' + GOOD_CRC, '0 1~ %s\n' % GOOD_CRC_OCTETS),
+    "a message on SOP'' with a wrong third symbol": ('18 06 FF 06 ' + GOOD_CRC, '0 2~ %s\n' % GOOD_CRC_OCTETS),
+    "a message on SOP'_Debug with a wrong last symbol": ('18 19 19 20 ' + GOOD_CRC, '0 3~ %s\n' % GOOD_CRC_OCTETS),
+    "a message on SOP''_Debug with a wrong first symbol": ('00 19 06 11 ' + GOOD_CRC, '0 4~ %s\n' % GOOD_CRC_OCTETS),
+    'a message on SOP with two wrong symbols': ('18 FF 20 11 ' + GOOD_CRC, 'no13 0\n'),
+    'a wrong CRC behind a wrong symbol in the set': ('18 18 18 18 09 0A 1E 1E 17 17 1A 0E 17 17 12 17 0D', 'no15 16\n'),
+    'EOP behind a set with a wrong symbol': ('18 18 18 0D 0D', 'no13 4\n'),
+    'a set with a wrong symbol, and no more': ('18 18 18 0D', 'no14 4\n'),
+    'a message cut, a wrong symbol in its set': ('18 18 18 0D 09 0A', 'no14 6\n'),
     'a Hard Reset': (RESET, '0 5 -\n'),
     'a Hard Reset and a line end': (RESET + '\n', '0 5 -\n'),
     'a Hard Reset, one symbol a line': ('07\n07\n07\n19\n', '0 5 -\n'),
     'a Hard Reset and a space': (RESET + ' ', '0 5 -\nbad octet 5\n'),
     'a Hard Reset and two line ends': (RESET + '\n\n', '0 5 -\nbad octet 5\n'),
     'a Hard Reset and half a symbol': (RESET + ' 0', '0 5 -\nbad octet 5\n'),
-    'a Hard Reset and EOP': (RESET + ' 0D', '0 5 -\nno13 4\n'),
+    'a Hard Reset and EOP': (RESET + ' 0D', '0 5 -\nno14 5\n'),
+    'a Hard Reset and four EOP': (RESET + ' 0D 0D 0D 0D', '0 5 -\nno13 4\n'),
     'a Hard Reset cut': ('07 07 07', 'no14 3\n'),
     'two Hard Resets': (RESET + ' ' + RESET + '\n', '0 5 -\n4 5 -\n'),
     'two Hard Resets, the second cut': (RESET + '\n07 07', '0 5 -\nno14 6\n'),
@@ -107,7 +133,10 @@ EDGES = {
     'two messages': ('%s %s\n%s' % (SET, GOOD_CRC, NAME), '0 0 %s\n17 1 %s\n' % (GOOD_CRC_OCTETS, NAME_OCTETS)),
     'a message, a Hard Reset, a message': ('%s\n%s\n%s %s\n' % (NAME, RESET, SET, GOOD_CRC),
                                           '0 1 %s\n25 5 -\n29 0 %s\n' % (NAME_OCTETS, GOOD_CRC_OCTETS)),
-    'a message and a symbol that begins nothing': (NAME + ' 1E', '0 1 %s\nno13 25\n' % NAME_OCTETS),
+    'a message, another with a wrong symbol in its set, a Hard Reset with one': (
+        '%s %s 18 18 18 0D %s\n07 07 07 FF' % (SET, GOOD_CRC, GOOD_CRC), '0 0 {0}\n17 0~ {0}\n34 5~ -\n'.format(GOOD_CRC_OCTETS)),
+    'a message and a symbol that no set has': (NAME + ' 1E', '0 1 %s\nno14 26\n' % NAME_OCTETS),
+    'a message and four symbols that no set has': (NAME + ' 1E 1E 1E 1E', '0 1 %s\nno13 25\n' % NAME_OCTETS),
     'a message with a small letter in its EOP': (NAME[:-1] + 'd', 'bad octet 25\n'),
     'a message cut before its EOP': (NAME[:-3], 'no14 24\n'),
     'a message cut before its EOP, and a space': (NAME[:-2], 'bad octet 25\n'),
@@ -158,6 +187,17 @@ def readme():
     return lines.pop(), {example: printed.encode() for _, example, printed in found}
 
 
+def shown_records():
+    """Input and output by name: the records that README.md hands to frames, and what it says is printed."""
+    with open(os.path.join(ROOT, 'README.md'), encoding='utf-8') as page:
+        found = re.findall(r'^    \./frames (\S+)$.*?^```text\n(.*?)^```$', page.read(), re.M | re.S)
+    if not found:
+        sys.exit('frames against peer: README.md hands no record to ./frames')
+    for file, printed in found:
+        with open(os.path.join(ROOT, file), encoding='utf-8') as text:
+            yield file, (text.read(), printed)
+
+
 def shell_line(bench, frames, line, path):
     return answers(['sh', '-c', line, bench, frames, path])
 
@@ -195,28 +235,77 @@ def printed_of_each(folder, program, *mode):
     return answers(['sh', '-c', EACH, program, folder, *mode], 6 * SECONDS * PATIENCE, stdin=subprocess.DEVNULL).split(b'=\n')[:-1]
 
 
-def damaged_records(frames, peer, seed):
-    """What is wrong on the first record that differs, and how many records end in which way."""
+def printed_of_all(frames, peer, name, texts):
+    """What is wrong on the first record on which the two differ, and what both print of each."""
     folder = os.path.join(KEPT, 'records')
     shutil.rmtree(folder, ignore_errors=True)
     os.makedirs(folder)
-    texts = [record('record %d of seed %d' % (n, seed)) for n in range(RECORDS)]
     for number, text in enumerate(texts):
         with open(os.path.join(folder, '%04d' % number), 'wb') as file:
             file.write(text)
     with ThreadPoolExecutor(2) as both:
         mine, other = both.map(lambda run: printed_of_each(folder, *run), [(frames,), (peer, 'frames')])
     at = first_difference(mine, other)
-    if at < RECORDS:
+    if at < len(texts):
         said = unlike(mine[at], other[at], 'of the peer') if at < min(len(mine), len(other)) else 'no end'
-        name = 'record %d of seed %d' % (at, seed)
-        return '%s: %s; the record is %s' % (name, said, kept(name, texts[at])), None
+        return '%s: %s; the record is %s' % (name % at, said, kept(name % at, texts[at])), None
     shutil.rmtree(folder)
-    last = [printed.splitlines()[-1:] for printed in other]
+    return None, mine
+
+
+def damaged_records(frames, peer, seed):
+    """What is wrong on the first record that differs, and how many records end in which way."""
+    texts = [record('record %d of seed %d' % (n, seed)) for n in range(RECORDS)]
+    wrong, printed = printed_of_all(frames, peer, 'record %%d of seed %d' % seed, texts)
+    if wrong:
+        return wrong, None
+    last = [lines.splitlines()[-1:] for lines in printed]
     ends = Counter(re.match(rb'no1[345]|bad octet|', line[0]).group().decode() or 'whole' if line else 'empty' for line in last)
     if any(ends[end] < FEWEST_OF_EACH for end in ('whole', 'no13', 'no14', 'no15', 'bad octet')):
         return 'the records seldom end in some way: %s' % sorted(ends.items()), None
     return None, ends
+
+
+def spoilt_records(frames, peer, seed):
+    """What is wrong on the first record that differs; of the sets with wrong symbols, how many are taken and how many refused."""
+    records = [spoilt_sets('spoilt record %d of seed %d' % (n, seed)) for n in range(SPOILT)]
+    wrong, printed = printed_of_all(frames, peer, 'spoilt record %%d of seed %d' % seed, list(map(as_text, records)))
+    if wrong:
+        return wrong, None
+    ways = Counter({'near %d' % kind: 0 for kind in KINDS} | {'near several': 0, 'near none': 0})
+    for symbols, lines in zip(records, printed):
+        ways.update('near ' + kind for kind in re.findall(r'^\d+ (\d)~ ', lines.decode(), re.M))
+        refused = re.search(rb'^no13 (\d+)$', lines, re.M)
+        if refused:
+            place = int(refused.group(1))
+            near = kinds_near(symbols[place:place + 4])
+            if len(near) == 1:
+                return 'refused at %d of %s, which is near kind %d alone' % (place, as_text(symbols).decode(), *near), None
+            ways['near several' if near else 'near none'] += 1
+    if min(ways.values()) < FEWEST_NEAR:
+        return 'the spoilt records seldom have some set: %s' % sorted(ways.items()), None
+    return None, ways
+
+
+def every_four(frames, peer):
+    """What is wrong on the first four symbols that either program takes for another set than 02, A4 says, and how many go which way."""
+    octets = with_crc(bytes.fromhex('4100'))
+    message = nibbles(octets) + [EOP]
+    fours = list(product([*CODES, NIBBLES[0]], repeat=4))
+    wrong, printed = printed_of_all(frames, peer, 'four symbols %d', [as_text([*four, *message]) for four in fours])
+    if wrong:
+        return wrong, None
+    ways = Counter()
+    for four, lines in zip(fours, printed):
+        exact, near = [kind for kind in KINDS if SETS[kind] == bytes(four)], kinds_near(four)
+        way = 'exact' if exact else ('none', 'near', 'several')[min(len(near), 2)]
+        ways[way] += 1
+        kind = (exact or near)[0] if way in ('exact', 'near') else None
+        taken = None if kind is None else '0 %d%s %s' % (
+            kind, '~' * (way == 'near'), '-' if kind == HARD_RESET else as_text(octets).decode())
+        if lines.decode().split('\n')[0] != (taken or 'no13 0'):
+            return 'the symbols %s, near %s: %r' % (as_text(four).decode(), near, lines), None
+    return None, ways
 
 
 def misread(frames, peer, cases):
@@ -241,7 +330,7 @@ def little_memory(frames, seed):
 def slow_input(frames):
     """Each line is there before the next frame comes."""
     with subprocess.Popen([frames], stdin=subprocess.PIPE, stdout=subprocess.PIPE, bufsize=0) as run:
-        for text, due in ((RESET, '0 5 -'), ('\n' + NAME, '4 1 ' + NAME_OCTETS), (' ' + RESET, '29 5 -'), ('\n18 18 11', 'no13 35')):
+        for text, due in ((RESET, '0 5 -'), ('\n' + NAME, '4 1 ' + NAME_OCTETS), (' ' + RESET, '29 5 -'), ('\n18 18 06 11', 'no13 33')):
             run.stdin.write(text.encode())
             due = due.encode() + b'\n'
             printed = awaited(run, len(due))
@@ -254,18 +343,18 @@ def slow_input(frames):
 def input_endings(frames, seed):
     """Pieces make no difference, nothing is read after a stop, and what cannot be read is an empty record."""
     text, due = long_record('pieces of seed %d' % seed, 1)
-    text, due = text + b'00', due + b'no13 %d\n' % (len(text) // 3)
+    text, due = text + b'00 00 00 00', due + b'no13 %d\n' % (len(text) // 3)
     for sizes in ([1], [2], [3], [4], [255], [4095], [4096], [3, 500, 1, 77, 256, 2048, 11]):
         printed = left_open(frames, in_pieces(text, sizes), subprocess.PIPE, SECONDS)
         if printed != due:
             said = 'does not end after a stop' if printed == NO_END else unlike(printed, due, 'due')
             yield 'when its input comes in pieces of %s: %s' % (sizes, said)
             break
-    for text, due in ((b'18 18 11', b'no13 2\n'), (b'18,', b'bad octet 2\n'), (b'18 x', b'bad octet 2\n')):
+    for text, due in ((b'18 18 06 11', b'no13 0\n'), (b'18,', b'bad octet 2\n'), (b'18 x', b'bad octet 2\n')):
         printed = left_open(frames, [text], subprocess.PIPE, SECONDS)
         if printed != due:
             yield 'prints %r for %r before an input left open' % (printed[:80], text)
-    for endless, due in (('yes', b'bad octet 1\n'), ("yes ''", b'bad octet 1\n'), ('yes 18', b'no13 3\n')):
+    for endless, due in (('yes', b'bad octet 1\n'), ("yes ''", b'bad octet 1\n'), ('yes 18', b'no13 4\n')):
         printed = answers(['sh', '-c', endless + ' | "$0"', frames], stdin=subprocess.DEVNULL)
         if printed != due:
             yield 'prints %r of what %s prints' % (printed[:80], endless)
@@ -277,6 +366,10 @@ def input_endings(frames, seed):
     os.close(folder)
 
 
+def counted(ways):
+    return ', '.join('{:,} {}'.format(ways[way], way) for way in sorted(ways))
+
+
 def main():
     started = time.monotonic()
     if len(sys.argv) not in (4, 5):
@@ -286,8 +379,10 @@ def main():
     os.makedirs(KEPT, exist_ok=True)
     unsent, kinds = sent_frames(bench, frames, peer, seed)
     differing, ends = damaged_records(frames, peer, seed)
+    unlike_spoilt, spoilt = spoilt_records(frames, peer, seed)
+    unlike_four, fours = every_four(frames, peer)
     octets = dict(every_octet())
-    wrong = [one for one in (misread(frames, peer, EDGES | octets), unsent, differing) if one]
+    wrong = [one for one in (misread(frames, peer, dict(shown_records()) | EDGES | octets), unsent, differing, unlike_spoilt, unlike_four) if one]
     resets = (RESET + '\n').encode() * 50_000
     endings = (*little_memory(frames, seed), *slow_input(frames), *input_endings(frames, seed), *output_endings(frames, resets, resets))
     wrong += ['frames ' + one for one in endings]
@@ -300,8 +395,9 @@ def main():
         'any amount' if EMULATED else '%d kB' % KILOBYTES))
     print("frames against peer: {} messages with each octet in a nibble's place, {} of them read".format(
         len(octets), sum(due.startswith('0 0 ') for _, due in octets.values())))
-    ways = ', '.join('{:,} {}'.format(ends[end], end) for end in sorted(ends))
-    print('frames against peer: {:,} records ({}) agree, seed {}, {:.0f} s'.format(RECORDS, ways, seed, time.monotonic() - started))
+    print('frames against peer: {:,} records with spoilt sets ({})'.format(SPOILT, counted(spoilt)))
+    print('frames against peer: {:,} times four symbols as a set ({})'.format(sum(fours.values()), counted(fours)))
+    print('frames against peer: {:,} records ({}) agree, seed {}, {:.0f} s'.format(RECORDS, counted(ends), seed, time.monotonic() - started))
 
 
 if __name__ == '__main__':

@@ -41,6 +41,18 @@ def symbol_changed(rng, symbols):
     symbols[rng.randrange(len(symbols))] = any_symbol(rng)
 
 
+def spoil(rng, symbols, at, count):
+    """So many symbols of the set at a place."""
+    for place in rng.sample(range(4), count):
+        symbols[at + place] = any_symbol(rng)
+
+
+def set_spoilt(rng, symbols):
+    places = [at for at in range(len(symbols)) if bytes(symbols[at:at + 4]) in SETS]
+    if places:
+        spoil(rng, symbols, rng.choice(places), rng.randrange(1, 3))
+
+
 def symbol_removed(rng, symbols):
     del symbols[rng.randrange(len(symbols))]
 
@@ -77,7 +89,7 @@ def wrong_length(rng, symbols):
 
 SYMBOL_DAMAGES = [
     symbol_changed, symbol_removed, symbol_added, symbol_doubled, nibble_changed, nibble_changed, record_cut, record_cut,
-    beginning_cut, wrong_length,
+    beginning_cut, wrong_length, set_spoilt,
 ]
 
 
@@ -145,6 +157,22 @@ def record(seed):
     for _ in range(on_text):
         text = rng.choice(TEXT_DAMAGES)(rng, text)
     return text
+
+
+def spoilt_sets(seed):
+    """The symbols of up to eight whole frames, in whose sets one or two symbols are changed, mostly one."""
+    rng = random.Random(seed)
+    symbols = []
+    for _ in range(rng.randrange(1, 9)):
+        at = len(symbols)
+        symbols += frame(rng)[2]
+        spoil(rng, symbols, at, rng.choice([0, 1, 1, 1, 1, 2]))
+    return symbols
+
+
+def kinds_near(four):
+    """The kinds whose sets have all but one of the four symbols."""
+    return [kind for kind, code in enumerate(SETS) if sum(one == other for one, other in zip(code, four)) == 3]
 
 
 def long_record(seed, length):

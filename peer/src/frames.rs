@@ -20,15 +20,18 @@ pub fn run(input: impl Read, mut output: impl Write) -> io::Result<()> {
         };
         match reader.take(symbol) {
             Ok(None) => {}
-            Ok(Some((number, octets))) => {
+            Ok(Some(frame)) => {
                 line.clear();
-                put_frame(&mut line, begun, number, octets);
+                put_frame(&mut line, begun, frame.number, frame.fit, frame.octets);
                 // Each line leaves at once, since the next frame may be long in coming.
                 output.write_all(&line)?;
                 output.flush()?;
                 begun = place + 1;
             }
-            Err(unread) => return writeln!(output, "no{} {place}", unread as u8),
+            Err((unread, within)) => {
+                let place = begun + within as u64;
+                return writeln!(output, "no{} {place}", unread as u8);
+            }
         }
     }
 }
@@ -111,12 +114,30 @@ mod tests {
     }
 
     #[test]
+    fn frames_whose_set_was_not_exact_are_marked() {
+        let near = GOOD_CRC.replacen("18", "FF", 1);
+        let record = [NAME, &near, "07 07 07 18", HARD_RESET, &near, GOOD_CRC].join(" ");
+        let octets = "41 00 BB 6C BB A8";
+        let frames = format!(
+            "0 1 {NAME_OCTETS}\n25 0~ {octets}\n42 5~ -\n46 5 -\n50 0~ {octets}\n67 0 {octets}\n"
+        );
+        assert_eq!(listed(record), frames);
+        assert_eq!(listed(near.replace("12 16 0D", "12 17 0D")), "no15 16\n");
+        assert_eq!(listed(near.replace("12 16 0D", "12 18 0D")), "no13 15\n");
+        assert_eq!(listed(near.replace(" 12 16 0D", "")), "no14 14\n");
+        assert_eq!(listed("07 07 06 19 18 18 06 11"), "0 5~ -\nno13 4\n");
+    }
+
+    #[test]
     fn ends_of_a_walk() {
-        assert_eq!(listed("18 18 11"), "no13 2\n");
+        assert_eq!(listed("18 18 11"), "no14 3\n");
         assert_eq!(listed("18"), "no14 1\n");
         assert_eq!(listed("18\n"), "no14 1\n");
-        assert_eq!(listed(format!("{HARD_RESET} 0D")), "0 5 -\nno13 4\n");
-        assert_eq!(listed(format!("{HARD_RESET} FF")), "0 5 -\nno13 4\n");
+        for no_set in ["18 18 06 11", "0D 0D 0D 0D", "FF 07 07 FF"] {
+            assert_eq!(listed(no_set), "no13 0\n");
+            assert_eq!(listed(format!("{HARD_RESET} {no_set}")), "0 5 -\nno13 4\n");
+        }
+        assert_eq!(listed(format!("{HARD_RESET} FF")), "0 5 -\nno14 5\n");
         assert_eq!(listed(format!("{HARD_RESET}\n07\n")), "0 5 -\nno14 5\n");
         let wrong = GOOD_CRC.replace("12 16 0D", "12 17 0D");
         assert_eq!(listed(&wrong), "no15 16\n");
@@ -170,11 +191,12 @@ mod tests {
     #[test]
     fn first_stop_wins() {
         for rest in ["", " ", "x", "\n\n", " 1", " 18 18 11", "1"] {
-            assert_eq!(listed(format!("18 18 11{rest}")), "no13 2\n", "{rest:?}");
+            assert_eq!(listed(format!("18 18 06 11{rest}")), "no13 0\n", "{rest:?}");
             let wrong = GOOD_CRC.replace("09 0A", "0A 0A");
             assert_eq!(listed(wrong + rest), "no15 16\n", "{rest:?}");
         }
         assert_eq!(listed("18 18 x 11"), "bad octet 3\n");
+        assert_eq!(listed("FF FF FF x"), "bad octet 4\n");
     }
 
     /// Refuses to be read after its text, as a pipe left open would block.
@@ -189,7 +211,7 @@ mod tests {
 
     #[test]
     fn nothing_is_read_after_the_walk_stopped() {
-        for text in ["18 18 11", "18,", "1d", "18 x", "18  ", "\n"] {
+        for text in ["18 18 06 11", "18,", "1d", "18 x", "18  ", "\n"] {
             run(LeftOpen(text.as_bytes()), &mut Vec::new()).unwrap();
         }
     }

@@ -1,4 +1,5 @@
-//! The line code of USB Power Delivery: symbols, CRC-32, headers, the frame writer and reader (01 'Line code').
+//! The line code of USB Power Delivery: symbols, CRC-32, headers, the frame writer and reader (01 'Line code'), which takes
+//! a set that is nearly right (02, A4).
 
 const SYNC_1: u8 = 0x18;
 const SYNC_2: u8 = 0x11;
@@ -35,29 +36,21 @@ impl Kind {
     }
 
     const fn ordered_set(self) -> [u8; 4] {
-        match self {
-            Kind::Sop => [SYNC_1, SYNC_1, SYNC_1, SYNC_2],
-            Kind::Sop1 => [SYNC_1, SYNC_1, SYNC_3, SYNC_3],
-            Kind::Sop2 => [SYNC_1, SYNC_3, SYNC_1, SYNC_3],
-            Kind::Sop1Db => [SYNC_1, RST_2, RST_2, SYNC_3],
-            Kind::Sop2Db => [SYNC_1, RST_2, SYNC_3, SYNC_2],
-        }
+        SETS[self as usize]
     }
 }
 
-const HARD_RESET: [u8; 4] = [RST_1, RST_1, RST_1, RST_2];
-
-/// The number of a Hard Reset where kinds are numbered.
+/// The number of a Hard Reset where kinds are numbered, and the first whose set is a frame by itself.
 const HARD_RESET_NUMBER: usize = 5;
 
 /// The ordered sets by number.
-const SETS: [[u8; 4]; HARD_RESET_NUMBER + 1] = [
-    Kind::Sop.ordered_set(),
-    Kind::Sop1.ordered_set(),
-    Kind::Sop2.ordered_set(),
-    Kind::Sop1Db.ordered_set(),
-    Kind::Sop2Db.ordered_set(),
-    HARD_RESET,
+const SETS: &[[u8; 4]] = &[
+    [SYNC_1, SYNC_1, SYNC_1, SYNC_2],
+    [SYNC_1, SYNC_1, SYNC_3, SYNC_3],
+    [SYNC_1, SYNC_3, SYNC_1, SYNC_3],
+    [SYNC_1, RST_2, RST_2, SYNC_3],
+    [SYNC_1, RST_2, SYNC_3, SYNC_2],
+    [RST_1, RST_1, RST_1, RST_2],
 ];
 
 const SHORTEST_MESSAGE: usize = 2;
@@ -206,7 +199,7 @@ impl Frame {
         self.clear();
         self.number = HARD_RESET_NUMBER;
         self.message_length = 0;
-        self.push(&HARD_RESET);
+        self.push(&SETS[HARD_RESET_NUMBER]);
     }
 
     fn push(&mut self, symbols: &[u8]) {
@@ -226,6 +219,43 @@ impl Frame {
     }
 }
 
+/// How the beginning of a frame fits the set that it is taken as, by the number of places in which they agree.
+#[derive(Clone, Copy, Debug, PartialEq, Eq)]
+pub enum Fit {
+    ThreeOfFour = 3,
+    Exact = 4,
+}
+
+/// The number of the kind that four symbols are taken as, and how they fit its set (02, A4).
+fn recognise(symbols: [u8; 4]) -> Option<(usize, Fit)> {
+    [Fit::Exact, Fit::ThreeOfFour]
+        .into_iter()
+        .find_map(|fit| only_kind_that_fits(symbols, fit).map(|number| (number, fit)))
+}
+
+/// None also where several kinds fit, since nothing tells which of them was meant.
+fn only_kind_that_fits(symbols: [u8; 4], fit: Fit) -> Option<usize> {
+    let mut fitting =
+        (0..SETS.len()).filter(|&kind| agreement(SETS[kind], symbols) == fit as usize);
+    let only = fitting.next()?;
+    fitting.next().is_none().then_some(only)
+}
+
+/// In how many places the symbols are those of the set.
+fn agreement(set: [u8; 4], symbols: [u8; 4]) -> usize {
+    set.iter()
+        .zip(symbols)
+        .filter(|&(&of_set, symbol)| of_set == symbol)
+        .count()
+}
+
+/// A frame that was read: the number of its kind, how its set fitted, and its octets with CRC, none if it is a set alone.
+pub struct Whole<'a> {
+    pub number: usize,
+    pub fit: Fit,
+    pub octets: &'a [u8],
+}
+
 /// Why a record does not go on with a frame, by its number in 01.
 #[derive(Clone, Copy, Debug, PartialEq, Eq)]
 pub enum Unread {
@@ -239,6 +269,9 @@ pub struct Reader {
     /// How many symbols of the frame under way were taken.
     taken: usize,
     set: [u8; 4],
+    /// What the set was taken as, once all of it was there.
+    number: usize,
+    fit: Fit,
     octets: [u8; Self::MOST_OCTETS],
 }
 
@@ -250,39 +283,40 @@ impl Reader {
         Reader {
             taken: 0,
             set: [0; 4],
+            number: 0,
+            fit: Fit::Exact,
             octets: [0; Self::MOST_OCTETS],
         }
     }
 
-    /// Takes a symbol; if it ends a frame, answers the number of the kind and the octets with CRC.
-    pub fn take(&mut self, symbol: u8) -> Result<Option<(usize, &[u8])>, Unread> {
+    /// Takes a symbol and answers the frame that it ends, if it ends one. A refusal has its place, counted from where the
+    /// frame began.
+    pub fn take(&mut self, symbol: u8) -> Result<Option<Whole<'_>>, (Unread, usize)> {
         let place = self.taken;
         self.taken += 1;
-        match place.checked_sub(self.set.len()) {
-            None => self.take_of_set(place, symbol),
-            Some(nibbles) if symbol == EOP => self.end(nibbles).map(Some),
-            Some(nibbles) => self.take_nibble(nibbles, symbol),
-        }
+        // A set is refused with all its four symbols, so the place is where they begin.
+        let (taken, refused_at) = match place.checked_sub(self.set.len()) {
+            None => (self.take_of_set(place, symbol), 0),
+            Some(nibbles) if symbol == EOP => (self.end(nibbles).map(Some), place),
+            Some(nibbles) => (self.take_nibble(nibbles, symbol), place),
+        };
+        taken.map_err(|unread| (unread, refused_at))
     }
 
-    fn take_of_set(&mut self, place: usize, symbol: u8) -> Result<Option<(usize, &[u8])>, Unread> {
+    /// Decides nothing before the fourth symbol, since any one of the four may be wrong.
+    fn take_of_set(&mut self, place: usize, symbol: u8) -> Result<Option<Whole<'_>>, Unread> {
         self.set[place] = symbol;
-        let begun = &self.set[..=place];
-        if !SETS.iter().any(|set| set.starts_with(begun)) {
-            return Err(Unread::NoFrame);
-        }
-        if begun != HARD_RESET {
+        if self.taken < self.set.len() {
             return Ok(None);
         }
-        self.taken = 0;
-        Ok(Some((HARD_RESET_NUMBER, &[])))
+        (self.number, self.fit) = recognise(self.set).ok_or(Unread::NoFrame)?;
+        if self.number < HARD_RESET_NUMBER {
+            return Ok(None);
+        }
+        Ok(Some(self.whole(0)))
     }
 
-    fn take_nibble(
-        &mut self,
-        nibbles: usize,
-        symbol: u8,
-    ) -> Result<Option<(usize, &[u8])>, Unread> {
+    fn take_nibble(&mut self, nibbles: usize, symbol: u8) -> Result<Option<Whole<'_>>, Unread> {
         let nibble = NIBBLE_SYMBOLS.iter().position(|&one| one == symbol);
         let nibble = nibble.ok_or(Unread::NoFrame)? as u8;
         let octet = self.octets.get_mut(nibbles / 2).ok_or(Unread::NoFrame)?;
@@ -293,22 +327,26 @@ impl Reader {
         Ok(None)
     }
 
-    fn end(&mut self, nibbles: usize) -> Result<(usize, &[u8]), Unread> {
+    fn end(&mut self, nibbles: usize) -> Result<Whole<'_>, Unread> {
         if nibbles % 2 == 1 || nibbles / 2 < Self::FEWEST_OCTETS {
             return Err(Unread::NoFrame);
         }
-        self.taken = 0;
-        let octets = &self.octets[..nibbles / 2];
-        let (message, crc) = octets.split_at(octets.len() - CRC_LENGTH);
+        let whole = self.whole(nibbles / 2);
+        let (message, crc) = whole.octets.split_at(whole.octets.len() - CRC_LENGTH);
         if crc != crc32(message).to_le_bytes() {
             return Err(Unread::WrongCrc);
         }
-        Ok((self.number(), octets))
+        Ok(whole)
     }
 
-    /// The number of the kind whose set was taken.
-    fn number(&self) -> usize {
-        SETS.iter().take_while(|&&set| set != self.set).count()
+    /// The frame under way with its first `count` octets, after which another may begin.
+    fn whole(&mut self, count: usize) -> Whole<'_> {
+        self.taken = 0;
+        Whole {
+            number: self.number,
+            fit: self.fit,
+            octets: &self.octets[..count],
+        }
     }
 }
 
@@ -399,17 +437,21 @@ mod tests {
         assert_eq!(frame.origin(), None);
     }
 
-    /// Numbers and octets of the whole frames, then why and where the walk stopped before the record's end.
-    type Walk = (Vec<(usize, Vec<u8>)>, Result<(), (Unread, usize)>);
+    /// Numbers, fits and octets of the whole frames, then why and where the walk stopped before the record's end.
+    type Walk = (Vec<(usize, Fit, Vec<u8>)>, Result<(), (Unread, usize)>);
 
     fn walked(record: &[u8]) -> Walk {
         let mut reader = Reader::new();
         let mut frames = Vec::new();
+        let mut begun = 0;
         for (place, &symbol) in record.iter().enumerate() {
             match reader.take(symbol) {
                 Ok(None) => {}
-                Ok(Some((number, octets))) => frames.push((number, octets.to_vec())),
-                Err(unread) => return (frames, Err((unread, place))),
+                Ok(Some(frame)) => {
+                    frames.push((frame.number, frame.fit, frame.octets.to_vec()));
+                    begun = place + 1;
+                }
+                Err((unread, within)) => return (frames, Err((unread, begun + within))),
             }
         }
         if reader.taken > 0 {
@@ -431,10 +473,11 @@ mod tests {
                 frame.write_message(kind, &message);
                 record.extend_from_slice(frame.symbols());
                 let octets = [&message[..], &crc32(&message).to_le_bytes()].concat();
-                written.push((number as usize, octets));
+                written.push((number as usize, Fit::Exact, octets));
             }
-            record.extend_from_slice(&HARD_RESET);
-            written.push((5, Vec::new()));
+            frame.write_hard_reset();
+            record.extend_from_slice(frame.symbols());
+            written.push((5, Fit::Exact, Vec::new()));
         }
         assert_eq!(walked(&record), (written, Ok(())));
     }
@@ -442,21 +485,188 @@ mod tests {
     #[test]
     fn reader_stops_at_the_first_symbol_that_fits_no_frame() {
         for (record, place) in [
-            (&[0x00][..], 0),
-            (&[0x20], 0),
-            (&[0xFF], 0),
-            (&[0x0D], 0),
-            (&[0x18, 0x18, 0x11], 2),
-            (&[0x18, 0x07], 1),
-            (&[0x07, 0x07, 0x07, 0x18], 3),
-            (&[0x07, 0x07, 0x07, 0x19, 0x0D], 4),
-            (&[0x18, 0x19, 0x06, 0x06], 3),
-            (&[0x18, 0x18, 0x18, 0x11, 0x18], 4),
+            (&[0x18, 0x18, 0x18, 0x11, 0x18][..], 4),
             (&[0x18, 0x18, 0x18, 0x11, 0x0D], 4),
+            (&[0x18, 0x18, 0x18, 0x11, 0x3E], 4),
             (&[0x18, 0x18, 0x18, 0x11, 0x1E, 0x00], 5),
+            (&[0x07, 0x07, 0x07, 0x19, 0x0D, 0x0D, 0x0D, 0x0D], 4),
         ] {
             let (_, stop) = walked(record);
             assert_eq!(stop, Err((Unread::NoFrame, place)), "{record:02X?}");
+        }
+    }
+
+    /// What the reader takes four symbols as.
+    fn taken_as(set: [u8; 4]) -> Option<(usize, Fit)> {
+        let mut reader = Reader::new();
+        for &symbol in &set[..3] {
+            assert!(matches!(reader.take(symbol), Ok(None)), "{set:02X?}");
+        }
+        match reader.take(set[3]) {
+            Ok(Some(frame)) => {
+                assert!(frame.number >= HARD_RESET_NUMBER && frame.octets.is_empty());
+            }
+            Ok(None) => assert!(reader.number < HARD_RESET_NUMBER),
+            Err(refusal) => {
+                assert_eq!(refusal, (Unread::NoFrame, 0), "{set:02X?}");
+                return None;
+            }
+        }
+        Some((reader.number, reader.fit))
+    }
+
+    /// The sets with their numbers, and what each becomes with any symbol, its own included, at any one of its places.
+    fn one_symbol_changes() -> impl Iterator<Item = (usize, [u8; 4], [u8; 4])> {
+        SETS.iter().enumerate().flat_map(|(number, &set)| {
+            (0..4).flat_map(move |place| {
+                (0..=255).map(move |symbol| {
+                    let mut changed = set;
+                    changed[place] = symbol;
+                    (number, set, changed)
+                })
+            })
+        })
+    }
+
+    /// All the symbols that agree in three places with several sets, and the numbers of these.
+    const DOUBTFUL: &[([u8; 4], &[usize])] = &[
+        ([0x18, 0x06, 0x06, 0x06], &[1, 2]),
+        ([0x18, 0x06, 0x18, 0x11], &[0, 2]),
+        ([0x18, 0x06, 0x19, 0x06], &[2, 3]),
+        ([0x18, 0x18, 0x06, 0x11], &[0, 1, 4]),
+        ([0x18, 0x18, 0x18, 0x06], &[0, 1, 2]),
+        ([0x18, 0x18, 0x19, 0x06], &[1, 3]),
+        ([0x18, 0x19, 0x06, 0x06], &[1, 3, 4]),
+        ([0x18, 0x19, 0x18, 0x06], &[2, 3]),
+        ([0x18, 0x19, 0x18, 0x11], &[0, 4]),
+        ([0x18, 0x19, 0x19, 0x11], &[3, 4]),
+    ];
+
+    #[test]
+    fn no_one_symbol_change_makes_another_kind() {
+        for (number, set, changed) in one_symbol_changes() {
+            let expected = if changed == set {
+                Some((number, Fit::Exact))
+            } else if DOUBTFUL.iter().any(|&(symbols, _)| symbols == changed) {
+                None
+            } else {
+                Some((number, Fit::ThreeOfFour))
+            };
+            assert_eq!(taken_as(changed), expected, "{changed:02X?}");
+        }
+    }
+
+    #[test]
+    fn symbols_near_several_sets_are_refused() {
+        for &(symbols, kinds) in DOUBTFUL {
+            assert_eq!(taken_as(symbols), None, "{symbols:02X?}");
+            let near = one_symbol_changes().filter(|&(_, _, changed)| changed == symbols);
+            let near: Vec<usize> = near.map(|(number, _, _)| number).collect();
+            assert_eq!(near, kinds, "{symbols:02X?}");
+        }
+        let stop = Err((Unread::NoFrame, 0));
+        assert_eq!(walked(&[0x18, 0x18, 0x06, 0x11]), (vec![], stop));
+    }
+
+    #[test]
+    fn two_wrong_symbols_never_make_the_kind_that_was_sent() {
+        let symbols = [
+            0x18, 0x11, 0x06, 0x07, 0x19, 0x0D, 0x00, 0x1E, 0x20, 0x38, 0xFF,
+        ];
+        for (number, set, once) in one_symbol_changes().filter(|(_, set, once)| set != once) {
+            for (place, symbol) in (0..4).flat_map(|place| symbols.map(|symbol| (place, symbol))) {
+                if once[place] != set[place] || symbol == set[place] {
+                    continue;
+                }
+                let mut twice = once;
+                twice[place] = symbol;
+                let kind = taken_as(twice).map(|(kind, _)| kind);
+                assert_ne!(kind, Some(number), "{twice:02X?}");
+            }
+        }
+    }
+
+    #[test]
+    fn two_wrong_symbols_are_refused_unless_they_come_near_another_set() {
+        for set in SETS {
+            for (one, other) in [(0, 1), (0, 2), (0, 3), (1, 2), (1, 3), (2, 3)] {
+                let mut changed = *set;
+                (changed[one], changed[other]) = (0x00, 0xFF);
+                assert_eq!(taken_as(changed), None, "{changed:02X?}");
+            }
+        }
+        // SOP with the last two symbols of SOP', and with the last one of these.
+        let sop1 = Some((1, Fit::Exact));
+        assert_eq!(taken_as([0x18, 0x18, 0x06, 0x06]), sop1);
+        let near_sop1 = Some((1, Fit::ThreeOfFour));
+        assert_eq!(taken_as([0x18, 0x18, 0x00, 0x06]), near_sop1);
+    }
+
+    #[test]
+    fn symbols_above_31_may_be_the_wrong_one_of_a_set() {
+        for (symbols, number) in [
+            ([0x38, 0x18, 0x18, 0x11], Some(0)),
+            ([0x18, 0x18, 0x18, 0x31], Some(0)),
+            ([0x18, 0x18, 0x06, 0x20], Some(1)),
+            ([0x18, 0x26, 0x18, 0x06], Some(2)),
+            ([0x18, 0x19, 0xF9, 0x06], Some(3)),
+            ([0xFF, 0x19, 0x06, 0x11], Some(4)),
+            ([0x07, 0x07, 0x87, 0x19], Some(5)),
+            ([0x38, 0x38, 0x18, 0x11], None),
+            ([0x07, 0x07, 0x27, 0x39], None),
+            ([0xFF, 0xFF, 0xFF, 0xFF], None),
+        ] {
+            let expected = number.map(|number| (number, Fit::ThreeOfFour));
+            assert_eq!(taken_as(symbols), expected, "{symbols:02X?}");
+        }
+    }
+
+    #[test]
+    fn fewer_than_four_symbols_are_cut_short_whatever_they_are() {
+        let hard_reset = SETS[HARD_RESET_NUMBER];
+        assert_eq!(walked(&[]), (vec![], Ok(())));
+        assert_eq!(walked(&hard_reset).1, Ok(()));
+        let alike = (0..=255).map(|symbol| [symbol; 3]);
+        for symbols in alike.chain([[0x18, 0x18, 0x11], [0x18, 0x07, 0x0D]]) {
+            for length in 1..=3 {
+                let begun = &symbols[..length];
+                let stop = Err((Unread::CutShort, length));
+                assert_eq!(walked(begun), (vec![], stop), "{begun:02X?}");
+                let stop = Err((Unread::CutShort, 4 + length));
+                assert_eq!(walked(&[&hard_reset, begun].concat()).1, stop);
+            }
+        }
+    }
+
+    #[test]
+    fn after_a_set_that_is_taken_all_is_as_if_it_had_been_exact() {
+        let mut frame = Frame::silent();
+        frame.write_message(Kind::Sop, &[0x4F, 0x10, 0x6C, 0xC3, 0xA1, 0x21]);
+        let rest = &frame.symbols()[4..];
+        let wrong_crc = [&rest[..3], &[NIBBLE_SYMBOLS[0xE]], &rest[4..]].concat();
+        let rests = [
+            rest.to_vec(),
+            rest[..9].to_vec(),
+            [rest, frame.symbols()].concat(),
+            [rest, &[0x18, 0x18, 0x06, 0x11]].concat(),
+            [rest, &[0x18, 0x18, 0x18]].concat(),
+            [&rest[..5], &[0x3E], rest].concat(),
+            [&rest[..7], &[EOP]].concat(),
+            [rest, &wrong_crc].concat(),
+            wrong_crc,
+            vec![],
+        ];
+        for (number, set, changed) in one_symbol_changes() {
+            if taken_as(changed) != Some((number, Fit::ThreeOfFour)) {
+                continue;
+            }
+            for rest in &rests {
+                let (mut frames, stop) = walked(&[&set, &rest[..]].concat());
+                if let Some((_, fit, _)) = frames.first_mut() {
+                    *fit = Fit::ThreeOfFour;
+                }
+                assert_eq!(walked(&[&changed, &rest[..]].concat()), (frames, stop));
+            }
         }
     }
 

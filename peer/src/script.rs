@@ -1,7 +1,7 @@
 //! The bench's text: lines in, events, lines out (01 'On the bench table', last part; 02, A1).
 
 use crate::device::{Device, Refusal};
-use crate::line::{crc32, Frame};
+use crate::line::{crc32, Fit, Frame};
 use crate::pins::{Millivolts, Pins};
 use crate::text::{hex, octet_value, put_frame, put_octets};
 use std::io::{self, Read, Write};
@@ -335,10 +335,10 @@ impl<W: Write> Answers<W> {
     fn sent(&mut self, line: &Frame) {
         match line.origin() {
             None => {}
-            Some((number, [])) => put_frame(&mut self.text, self.place, number, &[]),
+            Some((number, [])) => put_frame(&mut self.text, self.place, number, Fit::Exact, &[]),
             Some((number, message)) => {
                 let octets = [message, &crc32(message).to_le_bytes()].concat();
-                put_frame(&mut self.text, self.place, number, &octets);
+                put_frame(&mut self.text, self.place, number, Fit::Exact, &octets);
             }
         }
         self.place += line.symbols().len() as u64;

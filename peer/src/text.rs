@@ -1,5 +1,7 @@
 //! What the texts that go in and out are made of: octets of two capital hex digits, and a line for each frame.
 
+use crate::line::Fit;
+
 const HEX_DIGITS: &[u8; 16] = b"0123456789ABCDEF";
 /// All bits set, so that it survives an "or" with any digit's value.
 const NO_DIGIT: u8 = 0xFF;
@@ -48,9 +50,13 @@ pub fn put_octets(text: &mut Vec<u8>, octets: &[u8]) {
     }
 }
 
-/// A frame by its place, the number of its kind and its octets, none for a Hard Reset.
-pub fn put_frame(text: &mut Vec<u8>, place: u64, number: usize, octets: &[u8]) {
+/// A frame by its place, the number of its kind with `~` behind it if the set was not exact, and its octets, none for a
+/// Hard Reset.
+pub fn put_frame(text: &mut Vec<u8>, place: u64, number: usize, fit: Fit, octets: &[u8]) {
     text.extend_from_slice(format!("{place} {number}").as_bytes());
+    if fit != Fit::Exact {
+        text.push(b'~');
+    }
     put_octets(text, octets);
     text.push(b'\n');
 }

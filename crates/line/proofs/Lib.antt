@@ -3,10 +3,12 @@ pub mod Table
 pub mod Nibbles
 pub mod Looks
 pub mod Starts
+pub mod Agreeing
 pub mod Bodies
 pub mod Shapes
 pub mod Crcs
 pub mod Exactly
+pub mod Doubts
 pub mod Tails
 pub mod Division
 pub mod Outcomes

@@ -25,13 +25,13 @@ written-back UnknownKind = refl
 written-back WrongLength = refl
 
 answerOf : Said → Answer
-answerOf (wasRead k n p) = Frame k n (record { at = p })
+answerOf (wasRead k exact n p) = Frame k exact n (record { at = p })
 answerOf (saidNo n) = SmallBuffer
 answerOf (noAt n p) = cond (eqb n 13) (NoFrame p) (cond (eqb n 14) (TooShort p) (WrongCrc p))
 
 answer-back : (r : Answer) → answerOf (said r) ≡ r
 unfolding answerOf
-answer-back (Frame k n c) = refl
+answer-back (Frame k exact n c) = refl
 answer-back SmallBuffer = refl
 answer-back (NoFrame p) = refl
 answer-back (TooShort p) = refl

@@ -7,22 +7,23 @@ use Prim.Native.Nat.{ℕ, zero, suc, _+_, _*_, _-_, _/_, _<_, _≤_}
 use native.Mathlib.Numerals.{add-one}
 use native.Mathlib.Omega.{arith}
 use borrow.Author.Tests.{lt-ltb, le-ltb, eq-eqb, ne-eqb}
-use lib.ListN.{length, take, drop, getD, drop-of-length-le, length-drop, length-append}
+use lib.ListN.{length, take, drop, getD, drop-of-length-le, length-drop}
 use lib.Seq.{drop-cons, getD-take, take-all, take-at, length-take-le, sets}
 use Rattle.line.specs.declared.read.Answer.{Answer}
 use Rattle.line.specs.declared.read.Answer.the-variants.{Frame, SmallBuffer, NoFrame, TooShort, WrongCrc}
 use Rattle.line.specs.declared.sets.Start.{Start}
 use Rattle.line.specs.declared.sets.Start.the-variants.{Set, Short, Misfit}
 use Rattle.line.specs.Symbol.{nibbleOf, isNibble, octetsOf}
-use Rattle.line.specs.Kind.{setOf, sopKinds}
+use Rattle.line.specs.Kind.{sopKinds}
 use Rattle.line.specs.Crc.{crcRight}
 use Rattle.line.specs.Frame.{Shape, drawn}
-use Rattle.line.specs.Read.{Look, found, short, misfit, setAt, nibbleRun, mayEnd, endOr, bodyAt, withSet, afterSet, shapeAt, frame, wrongCrc, checked, firstOf, first}
+use Rattle.line.specs.Read.{Look, found, short, misfit, TakenSet, setAt, nibbleRun, mayEnd, endOr, bodyAt, withSet, shapeBehind, ReadFrame, frame, wrongCrc, checked, firstOf, afterSet, first}
+use Rattle.line.specs.Taken.{TakenAs}
 use Rattle.line.specs.Start.{startOf}
 use Rattle.line.specs.Reader.{octetRoom, wasRead, saysOf, filled, Tells, Reads}
 use Rattle.line.proofs.Nibbles.{nibbles-at}
-use Rattle.line.proofs.Looks.{Stands, Says}
-use Rattle.line.proofs.Starts.{IsKind, set-length, set-says}
+use Rattle.line.proofs.Starts.{set-length}
+use Rattle.line.proofs.Agreeing.{taken-kind, taken-long, SetMeans, set-means}
 use Rattle.line.proofs.Bodies.{run, End, end-true}
 use Rattle.line.proofs.Shapes.{length-drawn}
 use Rattle.line.proofs.Stores.{sets-front}
@@ -123,34 +124,37 @@ module _ (array held : List ℕ) (s : Shape) (n : ℕ) (long : length (s .octets
   held-is : take n held ≡ s .octets
   held-is = ap (take n) (gets ∙ sets-front (s .octets) array (omega arith)) ∙ take-at (s .octets) (drop (length (s .octets)) array) n long
 
-  module _ (at : ℕ) (sop : s .kind < sopKinds) (before : List ℕ) (lent : n ≤ length before) (b : Bool) (e : b ≡ crcRight (take n held)) where
-    by-crc : checked s ≡ cond b (frame s) (wrongCrc (4 + 2 * n))
+  module _ (at : ℕ) (exact : Bool) (sop : s .kind < sopKinds) (before : List ℕ) (lent : n ≤ length before) (b : Bool) (e : b ≡ crcRight (take n held)) where
+    abbrev read : ReadFrame
+    read = record { shape = s; exact = exact }
+
+    by-crc : checked exact s ≡ cond b (frame read) (wrongCrc (4 + 2 * n))
     unfolding checked
     by-crc =
-        ap (λ (t : Bool). cond t (cond (crcRight (s .octets)) (frame s) (wrongCrc (4 + 2 * length (s .octets)))) (frame s)) (carrying (s .kind) sop)
-        ∙ ap₂ (λ (t : Bool) (i : ℕ). cond t (frame s) (wrongCrc (4 + 2 * i))) (sym (e ∙ ap crcRight held-is)) long
+        ap (λ (t : Bool). cond t (cond (crcRight (s .octets)) (frame read) (wrongCrc (4 + 2 * length (s .octets)))) (frame read)) (carrying (s .kind) sop)
+        ∙ ap₂ (λ (t : Bool) (i : ℕ). cond t (frame read) (wrongCrc (4 + 2 * i))) (sym (e ∙ ap crcRight held-is)) long
 
-    pub crc-wrong : b ≡ false → Tells at (checked s) before (WrongCrc (4 + 2 * n)) before
+    pub crc-wrong : b ≡ false → Tells at (checked exact s) before (WrongCrc (4 + 2 * n)) before
     unfolding saysOf filled
     crc-wrong f =
-        let q : checked s ≡ wrongCrc (4 + 2 * n) = by-crc ∙ rw f refl in
+        let q : checked exact s ≡ wrongCrc (4 + 2 * n) = by-crc ∙ rw f refl in
         rw q (record { says = refl; leaves = refl })
 
     pub crc-agrees : b ≡ true → (after : List ℕ) → after ≡ sets before 0 (take n held)
-        → Tells at (checked s) before (Frame (s .kind) n (record { at = at + 5 + 2 * n })) after
+        → Tells at (checked exact s) before (Frame (s .kind) exact n (record { at = at + 5 + 2 * n })) after
     unfolding saysOf filled
     crc-agrees f after g =
         let d = length-drawn s sop in
-        let q : checked s ≡ frame s = by-crc ∙ rw f refl in
+        let q : checked exact s ≡ frame read = by-crc ∙ rw f refl in
         rw q
         (record {
-          says = ap₂ (wasRead (s .kind)) (sym long) (omega arith);
+          says = ap₂ (wasRead (s .kind) exact) (sym long) (omega arith);
           leaves = g ∙ ap (sets before 0) held-is ∙ sets-front (s .octets) before (omega arith);
         })
 
 -- ---- what follows a set
 
-module _ (at k : ℕ) (body before : List ℕ) (n : ℕ) (e : n ≡ nibbleRun 68 body) where
+module _ (at k : ℕ) (exact : Bool) (body before : List ℕ) (n : ℕ) (e : n ≡ nibbleRun 68 body) where
   body-is : bodyAt body ≡ endOr n body
   unfolding bodyAt
   body-is = ap (λ (i : ℕ). endOr i body) (sym e)
@@ -161,7 +165,7 @@ module _ (at k : ℕ) (body before : List ℕ) (n : ℕ) (e : n ≡ nibbleRun 68
   pub body-within : n ≤ length body
   body-within = let z = run 68 body .within in omega arith
 
-  pub body-short : n ≡ length body → Tells at (firstOf (withSet k (bodyAt body))) before (TooShort (4 + n)) before
+  pub body-short : n ≡ length body → Tells at (firstOf exact (withSet k (bodyAt body))) before (TooShort (4 + n)) before
   unfolding endOr withSet firstOf saysOf filled
   body-short h =
       let q : endOr n body ≡ short n = simp (eq-eqb n (length body) h) in
@@ -172,7 +176,7 @@ module _ (at k : ℕ) (body before : List ℕ) (n : ℕ) (e : n ≡ nibbleRun 68
     unfolding endOr
     at-end = simp (ne-eqb n (length body) more, ← t)
 
-    pub body-misfit : b ≡ false → Tells at (firstOf (withSet k (bodyAt body))) before (NoFrame (4 + n)) before
+    pub body-misfit : b ≡ false → Tells at (firstOf exact (withSet k (bodyAt body))) before (NoFrame (4 + n)) before
     unfolding withSet firstOf saysOf filled
     body-misfit f =
         let q : endOr n body ≡ misfit n = at-end ∙ simp f in
@@ -186,21 +190,21 @@ module _ (at k : ℕ) (body before : List ℕ) (n : ℕ) (e : n ≡ nibbleRun 68
       pairs = let z = ending .even in omega arith
 
       pub body-whole : (r : Answer) (after : List ℕ)
-          → Tells at (checked (record { kind = k; octets = octetsOf (take (2 * (n / 2)) body) })) before r after
-          → Tells at (firstOf (withSet k (bodyAt body))) before r after
+          → Tells at (checked exact (record { kind = k; octets = octetsOf (take (2 * (n / 2)) body) })) before r after
+          → Tells at (firstOf exact (withSet k (bodyAt body))) before r after
       unfolding withSet firstOf
       body-whole r after h =
           let q : endOr n body ≡ found (octetsOf (take n body)) = at-end ∙ simp f in
           rw (body-is ∙ q) (rw pairs at h)
 
--- ---- the set of a kind begins the record
+-- ---- a set is taken
 
-module _ (l : List ℕ) (start : Start) (r : startOf start ≡ setAt l) (k : ℕ) (e : start ≡ Set k) where
-  set-stands : Stands IsKind setOf l k
-  set-stands = subst (Says IsKind setOf l) (sym r ∙ ap startOf e) (set-says l)
+module _ (l : List ℕ) (start : Start) (r : startOf start ≡ setAt l) (k : ℕ) (exact : Bool) (e : start ≡ Set k exact) where
+  set-taken : TakenAs l k exact
+  set-taken = subst (SetMeans l) (sym r ∙ ap startOf e) (set-means l)
 
-  pub set-there : 4 ≤ length l
-  set-there = omega (arith, set-length k (set-stands .right), simp length-append at (ap length (set-stands .is)))
+  pub set-fits : 4 ≤ length l
+  set-fits = taken-long l k exact set-taken
 
 -- ---- the ways out
 
@@ -213,28 +217,29 @@ module _ (line before : List ℕ) (at : ℕ) (room : octetRoom ≤ length before
       record { says = rw (le-ltb (length before) octetRoom room) (t .says); leaves = rw (le-ltb (length before) octetRoom room) (t .leaves) }
 
   module _ (start : Start) (r : startOf start ≡ setAt (drop at line)) where
-    shape-is : first (drop at line) ≡ firstOf (afterSet (startOf start) (drop at line))
-    unfolding first shapeAt
-    shape-is = ap (λ (x : Look ℕ). firstOf (afterSet x (drop at line))) (sym r)
+    first-is : first (drop at line) ≡ afterSet (startOf start) (drop at line)
+    unfolding first
+    first-is = ap (λ (x : Look TakenSet). afterSet x (drop at line)) (sym r)
 
     pub set-short : (p : ℕ) → start ≡ Short p → Reads line at before (TooShort p) before
-    unfolding afterSet firstOf saysOf filled
-    set-short p e = by (TooShort p) before (rw (shape-is, e) (record { says = refl; leaves = refl }))
+    unfolding afterSet saysOf filled
+    set-short p e = by (TooShort p) before (rw (first-is, e) (record { says = refl; leaves = refl }))
 
-    pub set-misfit : (p : ℕ) → start ≡ Misfit p → Reads line at before (NoFrame p) before
-    unfolding afterSet firstOf saysOf filled
-    set-misfit p e = by (NoFrame p) before (rw (shape-is, e) (record { says = refl; leaves = refl }))
+    pub set-misfit : start ≡ Misfit → Reads line at before (NoFrame 0) before
+    unfolding afterSet saysOf filled
+    set-misfit e = by (NoFrame 0) before (rw (first-is, e) (record { says = refl; leaves = refl }))
 
-    module _ (k : ℕ) (e : start ≡ Set k) where
-      pub set-alone : sopKinds ≤ k → Reads line at before (Frame k 0 (record { at = at + 4 })) before
-      unfolding afterSet firstOf checked saysOf filled drawn
+    module _ (k : ℕ) (exact : Bool) (e : start ≡ Set k exact) where
+      pub set-alone : sopKinds ≤ k → Reads line at before (Frame k exact 0 (record { at = at + 4 })) before
+      unfolding afterSet shapeBehind firstOf checked saysOf filled drawn
       set-alone h =
           let s : Shape = record { kind = k; octets = [] } in
-          let q : first (drop at line) ≡ frame (record { kind = k; octets = [] }) = shape-is ∙ simp (e, bare k h) in
-          let n : length (drawn s) ≡ 4 = simp (bare k h, append-nil) (set-length k (set-stands (drop at line) start r k e .right)) in
-          by _ before (rw q (record { says = ap (λ (i : ℕ). wasRead k 0 (at + i)) (sym n); leaves = refl }))
+          let q : first (drop at line) ≡ frame (record { shape = record { kind = k; octets = [] }; exact = exact }) = first-is ∙ simp (e, bare k h) in
+          let kind = taken-kind (drop at line) k exact (set-taken (drop at line) start r k exact e) in
+          let n : length (drawn s) ≡ 4 = simp (bare k h, append-nil) (set-length k kind) in
+          by _ before (rw q (record { says = ap (λ (i : ℕ). wasRead k exact 0 (at + i)) (sym n); leaves = refl }))
 
       pub set-message : k < sopKinds → (a : Answer) (after : List ℕ)
-          → Tells at (firstOf (withSet k (bodyAt (drop 4 (drop at line))))) before a after → Reads line at before a after
-      unfolding afterSet
-      set-message h a after t = by a after (rw (shape-is, e, carrying k h) t)
+          → Tells at (firstOf exact (withSet k (bodyAt (drop 4 (drop at line))))) before a after → Reads line at before a after
+      unfolding afterSet shapeBehind
+      set-message h a after t = by a after (rw (first-is, e, carrying k h) t)

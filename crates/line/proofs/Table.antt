@@ -12,11 +12,11 @@ abbrev pub all : (ℕ → Bool) → ℕ → Bool
 all g zero = true
 all g (suc n) = g n && all g n
 
-head-of : (a b : Bool) → T (a && b) → T a
+pub head-of : (a b : Bool) → T (a && b) → T a
 head-of true b t = tt
 head-of false b t = absurd t
 
-tail-of : (a b : Bool) → T (a && b) → T b
+pub tail-of : (a b : Bool) → T (a && b) → T b
 tail-of true b t = t
 tail-of false b t = absurd t
 

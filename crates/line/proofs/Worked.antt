@@ -11,7 +11,7 @@ use Rattle.line.specs.Kind.{setOf, carries, common, kindFrom}
 use Rattle.line.specs.Crc.{poly, crcBit, crcBits, crcOctet, crcFrom, crcOf, fourOctets, withCrc, number, crcRight}
 use Rattle.line.specs.Frame.{drawn, sealed, symbolsOf}
 use Rattle.line.specs.Refusal.{firstNo}
-use Rattle.line.specs.Read.{furthest, setOr, setAt, nibbleRun, mayEnd, endOr, bodyAt, withSet, afterSet, shapeAt, checked, firstOf, first}
+use Rattle.line.specs.Read.{agree, agreeing, single, takenOr, setAt, nibbleRun, mayEnd, endOr, bodyAt, withSet, shapeBehind, checked, firstOf, afterSet, first}
 use Rattle.line.specs.Reader.{saysOf}
 use Rattle.line.specs.Examples.{nibblesOfSymbols, Examples}
 
@@ -19,12 +19,18 @@ isListed : ℕ → Bool
 isListed s = eqb (nibbleOf s) (getD nibblesOfSymbols s 16)
 
 pub examples : Examples
-unfolding isListed symbolOf placeOf nibbleOf isNibble encoded octetsOf setOf carries poly crcBit crcBits crcOctet crcFrom crcOf fourOctets withCrc drawn sealed symbolsOf firstNo common kindFrom furthest setOr setAt nibbleRun mayEnd endOr bodyAt withSet afterSet shapeAt number crcRight checked firstOf first saysOf
+unfolding isListed symbolOf placeOf nibbleOf isNibble encoded octetsOf setOf carries poly crcBit crcBits crcOctet crcFrom crcOf fourOctets withCrc drawn sealed symbolsOf firstNo common kindFrom agree agreeing single takenOr setAt nibbleRun mayEnd endOr bodyAt withSet shapeBehind number crcRight checked firstOf afterSet first saysOf
 examples =
     record {
       every-octet = λ s h. eqb→eq (nibbleOf s) (getD nibblesOfSymbols s 16) (at isListed 256 tt s h);
       nothing = refl;
+      three-symbols = refl;
       no-set = refl;
+      several = refl;
+      doubtful = refl;
+      two-changed = refl;
+      reset = refl;
+      near-reset = refl;
       eop-after-half = refl;
       eop-too-soon = refl;
       octet-35 = refl;

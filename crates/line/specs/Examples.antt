@@ -2,18 +2,19 @@
 -- Assumes nothing.
 use mathlib.Core.Path.{_≡_}
 use mathlib.Core.List.{List, [], _∷_, _++_}
+use mathlib.Core.Bool.{true, false}
 use mathlib.Core.Option.{some}
 use Prim.Native.Nat.{ℕ, _<_}
 use lib.ListN.{length, getD, take, drop, replicate}
 use Rattle.line.specs.declared.read.Answer.{Answer}
 use Rattle.line.specs.Symbol.{eop, nibbleOf}
-use Rattle.line.specs.Kind.{setOf}
+use Rattle.line.specs.Kind.{orderedSets, setOf}
 use Rattle.line.specs.Crc.{crcOf}
 use Rattle.line.specs.Frame.{Frame, symbolsOf}
 use Rattle.line.specs.Refusal.{firstNo}
 use Rattle.line.specs.Write.{writerRows}
-use Rattle.line.specs.Read.{first}
-use Rattle.line.specs.Reader.{Said, saidNo, noAt, said, saysOf, Reads}
+use Rattle.line.specs.Read.{agreeing, first}
+use Rattle.line.specs.Reader.{Said, wasRead, saidNo, noAt, said, saysOf, Reads}
 
 -- what the reader says of a record, given room
 abbrev pub readingOf : List ℕ → Said
@@ -38,7 +39,13 @@ nibblesOfSymbols =
 pub record Examples : Type 0 where
   pub every-octet : (s : ℕ) → s < 256 → nibbleOf s ≡ getD nibblesOfSymbols s 16
   pub nothing : readingOf [] ≡ noAt 14 0
-  pub no-set : readingOf (0x18 ∷ 0x18 ∷ 0x11 ∷ []) ≡ noAt 13 2
+  pub three-symbols : readingOf (0x18 ∷ 0x18 ∷ 0x11 ∷ []) ≡ noAt 14 3
+  pub no-set : readingOf (0x18 ∷ 0x18 ∷ 0x07 ∷ 0x07 ∷ []) ≡ noAt 13 0
+  pub several : agreeing 0 orderedSets (0x18 ∷ 0x18 ∷ 0x06 ∷ 0x11 ∷ []) ≡ 0 ∷ 1 ∷ 4 ∷ []
+  pub doubtful : readingOf (0x18 ∷ 0x18 ∷ 0x06 ∷ 0x11 ∷ []) ≡ noAt 13 0
+  pub two-changed : agreeing 0 orderedSets (0x18 ∷ 0x06 ∷ 0x06 ∷ 0x11 ∷ []) ≡ 4 ∷ []
+  pub reset : readingOf (0x07 ∷ 0x07 ∷ 0x07 ∷ 0x19 ∷ []) ≡ wasRead 5 true 0 4
+  pub near-reset : readingOf (0x07 ∷ 0xA1 ∷ 0x07 ∷ 0x19 ∷ []) ≡ wasRead 5 false 0 4
   pub eop-after-half : readingOf (started 13 ++ (eop ∷ [])) ≡ noAt 13 17
   pub eop-too-soon : readingOf (started 10 ++ (eop ∷ [])) ≡ noAt 13 14
   pub octet-35 : readingOf (started 69) ≡ noAt 13 72

@@ -1,4 +1,4 @@
--- What the line code is and promises (01, 'Line code (PD)'), in 01's order; Theorems.antt says what holds of it.
+-- What the line code is and promises (01, 'Line code (PD)'; 02, A4), in 01's order; Theorems.antt says what holds of it.
 pub mod Symbol
 pub mod Kind
 pub mod Crc
@@ -9,5 +9,6 @@ pub mod Read
 pub mod Start
 pub mod Reader
 pub mod Place
+pub mod Taken
 pub mod Theorems
 pub mod Examples

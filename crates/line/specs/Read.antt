@@ -1,13 +1,13 @@
--- What a record begins with: a frame, a part of one, or neither (01, 'Line reader').
+-- What a record begins with: a frame, a part of one, or neither (01, 'Line reader'; 02, A4).
 -- Assumes nothing.
-use mathlib.Core.Bool.{Bool, cond, _&&_}
+use mathlib.Core.Bool.{Bool, true, false, cond, _&&_}
 use mathlib.Core.List.{List, [], _∷_}
 use mathlib.Core.Option.{Option, none, some}
-use Prim.Native.Nat.{ℕ, zero, suc, _+_, _*_, _%_, max}
-use lib.Dec.{leb, eqb}
+use Prim.Native.Nat.{ℕ, zero, suc, _+_, _*_, _%_}
+use lib.Dec.{ltb, leb, eqb}
 use lib.ListN.{length, take, drop, getD}
 use Rattle.line.specs.Symbol.{eop, isNibble, octetsOf}
-use Rattle.line.specs.Kind.{orderedSets, common, kindFrom, carries}
+use Rattle.line.specs.Kind.{orderedSets, kindFrom, carries}
 use Rattle.line.specs.Crc.{crcRight}
 use Rattle.line.specs.Frame.{Shape}
 
@@ -17,19 +17,38 @@ pub data Look (A : Type 0) : Type 0 where
   short : ℕ → Look A
   misfit : ℕ → Look A
 
--- ---- which set begins the record
+-- ---- which set begins the record (02, A4)
 
--- the most that the record has in common with one of these sets
-unfoldable pub furthest : List (List ℕ) → List ℕ → ℕ
-furthest [] l = 0
-furthest (s ∷ ss) l = max (common s l) (furthest ss l)
+-- a kind that the first four symbols are taken for, and whether they are its set exactly
+pub record TakenSet : Type 0 where
+  pub kind : ℕ
+  pub exact : Bool
 
-unfoldable pub setOr : Option ℕ → ℕ → ℕ → Look ℕ
-setOr (some k) p n = found k
-setOr none p n = cond (eqb p n) (short p) (misfit p)
+-- in how many places a set and the record agree
+unfoldable pub agree : List ℕ → List ℕ → ℕ
+agree [] l = 0
+agree (x ∷ xs) [] = 0
+agree (x ∷ xs) (y ∷ ys) = cond (eqb x y) (suc (agree xs ys)) (agree xs ys)
 
-unfoldable pub setAt : List ℕ → Look ℕ
-setAt l = setOr (kindFrom 0 orderedSets l) (furthest orderedSets l) (length l)
+-- the kinds of those sets that agree with the record in three places; k is the first one's kind
+unfoldable pub agreeing : ℕ → List (List ℕ) → List ℕ → List ℕ
+agreeing k [] l = []
+agreeing k (s ∷ ss) l = cond (eqb (agree s l) 3) (k ∷ agreeing (suc k) ss l) (agreeing (suc k) ss l)
+
+-- a single kind is taken; of none and of several the answer is 13 with place 0
+unfoldable pub single : List ℕ → Look TakenSet
+single [] = misfit 0
+single (k ∷ []) = found (record { kind = k; exact = false })
+single (k ∷ j ∷ ks) = misfit 0
+
+-- the set that matches exactly, else the single kind that agrees in three places
+unfoldable pub takenOr : Option ℕ → List ℕ → Look TakenSet
+takenOr (some k) near = found (record { kind = k; exact = true })
+takenOr none near = single near
+
+-- of fewer than four symbols nothing is known yet
+unfoldable pub setAt : List ℕ → Look TakenSet
+setAt l = cond (ltb (length l) 4) (short (length l)) (takenOr (kindFrom 0 orderedSets l) (agreeing 0 orderedSets l))
 
 -- ---- what follows the set of an SOP kind
 
@@ -58,32 +77,45 @@ withSet k (found m) = found (record { kind = k; octets = m })
 withSet k (short p) = short (4 + p)
 withSet k (misfit p) = misfit (4 + p)
 
-unfoldable pub afterSet : Look ℕ → List ℕ → Look Shape
-afterSet (found k) l = cond (carries k) (withSet k (bodyAt (drop 4 l))) (found (record { kind = k; octets = [] }))
-afterSet (short p) l = short p
-afterSet (misfit p) l = misfit p
-
--- the shape that begins the record, CRC values disregarded
-unfoldable pub shapeAt : List ℕ → Look Shape
-shapeAt l = afterSet (setAt l) l
+-- the shape of kind k, CRC values disregarded; l is what follows its set
+unfoldable pub shapeBehind : ℕ → List ℕ → Look Shape
+shapeBehind k l = cond (carries k) (withSet k (bodyAt l)) (found (record { kind = k; octets = [] }))
 
 -- ---- the first frame
 
--- the frame's kind and its octets with CRC; or the place at which there is none
+-- a frame as it is read: its kind and its octets with CRC, and whether its set was exact
+pub record ReadFrame : Type 0 where
+  pub shape : Shape
+  pub exact : Bool
+
+-- one whose set is exact
+abbrev pub exactFrame : Shape → ReadFrame
+exactFrame s = record { shape = s; exact = true }
+
+-- the frame; or the place at which there is none
 pub data First : Type 0 where
-  frame : Shape → First
+  frame : ReadFrame → First
   wrongCrc : ℕ → First
   tooShort : ℕ → First
   noFrame : ℕ → First
 
 -- a CRC is wrong at the symbols before EOP
-unfoldable pub checked : Shape → First
-checked s = cond (carries (s .kind)) (cond (crcRight (s .octets)) (frame s) (wrongCrc (4 + 2 * length (s .octets)))) (frame s)
+unfoldable pub checked : Bool → Shape → First
+checked exact s =
+    cond (carries (s .kind))
+    (cond (crcRight (s .octets)) (frame (record { shape = s; exact = exact })) (wrongCrc (4 + 2 * length (s .octets))))
+    (frame (record { shape = s; exact = exact }))
 
-unfoldable pub firstOf : Look Shape → First
-firstOf (found s) = checked s
-firstOf (short p) = tooShort p
-firstOf (misfit p) = noFrame p
+unfoldable pub firstOf : Bool → Look Shape → First
+firstOf exact (found s) = checked exact s
+firstOf exact (short p) = tooShort p
+firstOf exact (misfit p) = noFrame p
+
+-- a set that is taken counts four symbols, exact or not
+unfoldable pub afterSet : Look TakenSet → List ℕ → First
+afterSet (found t) l = firstOf (t .exact) (shapeBehind (t .kind) (drop 4 l))
+afterSet (short p) l = tooShort p
+afterSet (misfit p) l = noFrame p
 
 unfoldable pub first : List ℕ → First
-first l = firstOf (shapeAt l)
+first l = afterSet (setAt l) l

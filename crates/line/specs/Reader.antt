@@ -1,7 +1,7 @@
--- The line reader: what it answers, what it leaves in the lent octets, and the rest of the record (01, 'Line reader', 'Numbers of no').
+-- The line reader: what it answers, what it leaves in the lent octets, and the rest of the record (01, 'Line reader', 'Numbers of no'; 02, A4).
 -- Assumes nothing.
 use mathlib.Core.Path.{_≡_}
-use mathlib.Core.Bool.{cond}
+use mathlib.Core.Bool.{Bool, cond}
 use mathlib.Core.List.{List, _++_}
 use Prim.Native.Nat.{ℕ, _+_, min}
 use lib.Dec.{ltb}
@@ -17,14 +17,14 @@ use Rattle.line.specs.Read.{First, frame, wrongCrc, tooShort, noFrame, f
 abbrev pub octetRoom : ℕ
 octetRoom = 34
 
--- what the reader says, in 01's numbers: kind, count of octets with CRC and next place; or a number of no, 13 to 15 with a place
+-- what the reader says, in 01's numbers: kind, whether its set was exact, count of octets with CRC and next place; or a number of no, 13 to 15 with a place
 pub data Said : Type 0 where
-  wasRead : ℕ → ℕ → ℕ → Said
+  wasRead : ℕ → Bool → ℕ → ℕ → Said
   saidNo : ℕ → Said
   noAt : ℕ → ℕ → Said
 
 abbrev pub said : Answer → Said
-said (Frame k n c) = wasRead k n (c .at)
+said (Frame k exact n c) = wasRead k exact n (c .at)
 said SmallBuffer = saidNo 12
 said (NoFrame p) = noAt 13 p
 said (TooShort p) = noAt 14 p
@@ -32,14 +32,14 @@ said (WrongCrc p) = noAt 15 p
 
 -- what it says of the record from `at` on
 unfoldable pub saysOf : ℕ → First → Said
-saysOf at (frame s) = wasRead (s .kind) (length (s .octets)) (at + length (drawn s))
+saysOf at (frame r) = wasRead (r .shape .kind) (r .exact) (length (r .shape .octets)) (at + length (drawn (r .shape)))
 saysOf at (wrongCrc p) = noAt 15 p
 saysOf at (tooShort p) = noAt 14 p
 saysOf at (noFrame p) = noAt 13 p
 
 -- the octets with CRC and then what stood there; where there is no frame all stays
 unfoldable pub filled : First → List ℕ → List ℕ
-filled (frame s) before = s .octets ++ drop (length (s .octets)) before
+filled (frame r) before = r .shape .octets ++ drop (length (r .shape .octets)) before
 filled (wrongCrc p) before = before
 filled (tooShort p) before = before
 filled (noFrame p) before = before
@@ -57,7 +57,7 @@ pub record Reads (line : List ℕ) (at : ℕ) (before : List ℕ) (r : Answer) (
 
 -- the place after a read at `at`: behind a frame, and the same where there is none
 unfoldable pub behind : ℕ → Said → ℕ
-behind at (wasRead k n p) = p
+behind at (wasRead k exact n p) = p
 behind at (saidNo n) = at
 behind at (noAt n p) = at
 
@@ -69,7 +69,7 @@ pub record IsTail (line : RefT (List ℕ)) (n : ℕ) (r : RefT (List ℕ)) : Typ
 
 -- how many symbols the first frame has; none where there is no frame
 unfoldable pub span : First → ℕ
-span (frame s) = length (drawn s)
+span (frame r) = length (drawn (r .shape))
 span (wrongCrc p) = 0
 span (tooShort p) = 0
 span (noFrame p) = 0

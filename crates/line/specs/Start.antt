@@ -1,11 +1,10 @@
--- The code's answer on which set begins a record, as the definitions have it.
+-- The code's answer on which set a record begins with, as the definitions have it.
 -- Assumes nothing.
-use Prim.Native.Nat.{ℕ}
 use Rattle.line.specs.declared.sets.Start.{Start}
 use Rattle.line.specs.declared.sets.Start.the-variants.{Set, Short, Misfit}
-use Rattle.line.specs.Read.{Look, found, short, misfit}
+use Rattle.line.specs.Read.{Look, found, short, misfit, TakenSet}
 
-abbrev pub startOf : Start → Look ℕ
-startOf (Set k) = found k
+abbrev pub startOf : Start → Look TakenSet
+startOf (Set k exact) = found (record { kind = k; exact = exact })
 startOf (Short p) = short p
-startOf (Misfit p) = misfit p
+startOf Misfit = misfit 0

@@ -19,11 +19,12 @@ pub struct Cursor {
     pub at: usize,
 }
 
-// What the reader answers: the frame's kind, the number of its octets with CRC and the place after it; or the
-// place, counted from the cursor, at which there is no frame.
+// What the reader answers: the frame's kind, whether its set was exact (02, A4), the number of its octets with CRC and the place
+// after it; or the place, counted from the cursor, at which there is no frame.
 pub enum Answer {
     Frame {
         kind: u8,
+        exact: bool,
         count: usize,
         next: Cursor,
     },
@@ -100,9 +101,16 @@ fn copy(from: &[u8], n: usize, to: &mut [u8])
 }
 
 // A message whose shape is whole, by its CRC. The octets wait in an array of their own, so that a wrong CRC leaves the lent ones.
-fn read_octets(kind: u8, body: &[u8], count: usize, at: usize, octets: &mut [u8]) -> Answer
+fn read_octets(
+    kind: u8,
+    exact: bool,
+    body: &[u8],
+    count: usize,
+    at: usize,
+    octets: &mut [u8],
+) -> Answer
     requires { ⌜ (kind < sopKinds) × (2 * count ≤ nibbleRun 68 (now body)) × (6 ≤ count) × (count ≤ octetRoom) × (octetRoom ≤ length (now octets)) × (at + (5 + 2 * count) < 2 ^ 64) ⌝ }
-    ensures { λ r. ⌜ Tells at (checked (record { kind = kind; octets = octetsOf (take (2 * count) (now (body .entry))) })) (now (octets .entry)) r (now (octets .exit)) ⌝ }
+    ensures { λ r. ⌜ Tells at (checked exact (record { kind = kind; octets = octetsOf (take (2 * count) (now (body .entry))) })) (now (octets .entry)) r (now (octets .exit)) ⌝ }
 {
     let mut held = [0u8; OCTET_ROOM];
     get_octets(body, count, &mut held);
@@ -110,6 +118,7 @@ fn read_octets(kind: u8, body: &[u8], count: usize, at: usize, octets: &mut [u8]
         copy(&held, count, octets);
         return Answer::Frame {
             kind,
+            exact,
             count,
             next: Cursor {
                 at: at + 5 + 2 * count,
@@ -120,16 +129,16 @@ fn read_octets(kind: u8, body: &[u8], count: usize, at: usize, octets: &mut [u8]
 }
 
 // What follows the set of an SOP kind.
-fn read_message(kind: u8, body: &[u8], at: usize, octets: &mut [u8]) -> Answer
+fn read_message(kind: u8, exact: bool, body: &[u8], at: usize, octets: &mut [u8]) -> Answer
     requires { ⌜ (kind < sopKinds) × (octetRoom ≤ length (now octets)) × (at + (4 + length (now body)) < 2 ^ 64) ⌝ }
-    ensures { λ r. ⌜ Tells at (firstOf (withSet kind (bodyAt (now (body .entry))))) (now (octets .entry)) r (now (octets .exit)) ⌝ }
+    ensures { λ r. ⌜ Tells at (firstOf exact (withSet kind (bodyAt (now (body .entry))))) (now (octets .entry)) r (now (octets .exit)) ⌝ }
 {
     let n = nibbles(body);
     if n == body.len() {
         return Answer::TooShort(4 + n);
     }
     if may_end(n, body[n]) {
-        return read_octets(kind, body, n / 2, at, octets);
+        return read_octets(kind, exact, body, n / 2, at, octets);
     }
     Answer::NoFrame(4 + n)
 }
@@ -145,16 +154,17 @@ pub fn read_frame(line: &[u8], cursor: Cursor, octets: &mut [u8]) -> Answer
     let part = rest(line, cursor);
     match set_at(part) {
         Start::Short(place) => Answer::TooShort(place),
-        Start::Misfit(place) => Answer::NoFrame(place),
-        Start::Set(kind) => {
+        Start::Misfit => Answer::NoFrame(0),
+        Start::Set { kind, exact } => {
             if SOP_KINDS <= kind {
                 return Answer::Frame {
                     kind,
+                    exact,
                     count: 0,
                     next: Cursor { at: at + 4 },
                 };
             }
-            read_message(kind, &part[4..], at, octets)
+            read_message(kind, exact, &part[4..], at, octets)
         }
     }
 }
@@ -172,6 +182,7 @@ fn tail<'a>(line: &'a [u8], answer: Answer) -> &'a [u8]
     match answer {
         Answer::Frame {
             kind: _,
+            exact: _,
             count: _,
             next,
         } => rest(line, next),

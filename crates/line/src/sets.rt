@@ -1,10 +1,10 @@
-// The ordered sets (01, 'Line code (PD)', table): put at the beginning of a frame, and looked for at that of a record.
+// The ordered sets (01, 'Line code (PD)', table): put at the beginning of a frame, and looked for at that of a record (02, A4).
 ghost use mathlib.Core.Path.{_≡_};
-ghost use Prim.Native.Nat.{_<_, _≤_, max};
+ghost use Prim.Native.Nat.{_<_, _≤_};
 ghost use lib.ListN.{length};
 ghost use lib.Seq.{sets};
-ghost use Rattle.line.specs.Kind.{kinds, setOf, common};
-ghost use Rattle.line.specs.Read.{setAt};
+ghost use Rattle.line.specs.Kind.{kinds, setOf};
+ghost use Rattle.line.specs.Read.{agree, setAt};
 ghost use Rattle.line.specs.Start.{startOf};
 
 const SOP: [u8; 4] = *b"\x18\x18\x18\x11";
@@ -51,52 +51,56 @@ pub(crate) fn put_set(kind: u8, symbols: &mut [u8])
     symbols[3] = set[3];
 }
 
-// How many symbols a set and a record begin with in common.
-fn shared(set: &[u8], line: &[u8]) -> usize
-    ensures { λ r. ⌜ r ≡ common (now (set .entry)) (now (line .entry)) ⌝ }
+// In how many places a set and the beginning of a record agree.
+fn agree(set: &[u8], line: &[u8]) -> usize
+    requires { ⌜ length (now set) ≤ length (now line) ⌝ }
+    ensures { λ r. ⌜ r ≡ agree (now (set .entry)) (now (line .entry)) ⌝ }
 {
+    let mut n = 0;
     let mut i = 0;
     while i < set.len() {
-        if i == line.len() {
-            return i;
-        }
-        if set[i] != line[i] {
-            return i;
+        if set[i] == line[i] {
+            n += 1;
         }
         i += 1;
     }
-    i
+    n
 }
 
-// The set that a record begins with, or how far it begins one.
+// The set that a record's first four symbols are taken for, and whether they are it exactly; or too few symbols; or no set.
 pub(crate) enum Start {
-    Set(u8),
+    Set { kind: u8, exact: bool },
     Short(usize),
-    Misfit(usize),
+    Misfit,
 }
 
+// The set that matches exactly, else the single one that agrees in three places (02, A4).
 pub(crate) fn set_at(line: &[u8]) -> Start
     ensures { λ r. ⌜ startOf r ≡ setAt (now (line .entry)) ⌝ }
 {
-    let mut place = 0;
+    if line.len() < 4 {
+        return Start::Short(line.len());
+    }
+    let mut near = 0;
+    let mut count: usize = 0;
     let mut kind = 0;
     while kind < KINDS {
         let set = set_of(kind);
-        let n = shared(&set, line);
+        let n = agree(&set, line);
         if n == 4 {
-            return Start::Set(kind);
+            return Start::Set { kind, exact: true };
         }
-        place = larger(place, n);
+        if n == 3 {
+            near = kind;
+            count += 1;
+        }
         kind += 1;
     }
-    if place == line.len() {
-        return Start::Short(place);
+    if count == 1 {
+        return Start::Set {
+            kind: near,
+            exact: false,
+        };
     }
-    Start::Misfit(place)
-}
-
-fn larger(a: usize, b: usize) -> usize
-    ensures { λ r. ⌜ r ≡ max a b ⌝ }
-{
-    if a < b { b } else { a }
+    Start::Misfit
 }

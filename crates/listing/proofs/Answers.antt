@@ -1,6 +1,7 @@
 -- What the reader's answer says of the symbols that it was given, with room for any frame's octets.
 -- Assumes nothing.
 use mathlib.Core.Path.{_≡_, sym, ap, _∙_}
+use mathlib.Core.Bool.{Bool}
 use mathlib.Core.List.{List}
 use Prim.Native.Nat.{ℕ, _≤_}
 use native.Mathlib.Omega.{arith}
@@ -20,16 +21,18 @@ module _ (w before after : List ℕ) (a : Answer) (room : octetRoom ≤ length b
       let t = with-room w 0 before a after room r in
       each (first w) (ap said (sym e) ∙ t .says) (t .leaves)
 
-  pub is-frame : (k n : ℕ) (c : Cursor) → a ≡ Frame k n c → first w ≡ frame (record { kind = k; octets = take n after })
+  pub is-frame : (k : ℕ) (exact : Bool) (n : ℕ) (c : Cursor) → a ≡ Frame k exact n c → first w ≡ frame (record { shape = record { kind = k; octets = take n after }; exact = exact })
   unfolding saysOf filled
-  is-frame k n c e = inverts (Frame k n c) (λ f. f ≡ frame (record { kind = k; octets = take n after })) e go
+  is-frame k exact n c e = inverts (Frame k exact n c) (λ f. f ≡ frame (record { shape = record { kind = k; octets = take n after }; exact = exact })) e go
     where
-      go : (f : First) → said (Frame k n c) ≡ saysOf 0 f → after ≡ filled f before → f ≡ frame (record { kind = k; octets = take n after })
-      go (frame s) e l =
+      go : (f : First) → said (Frame k exact n c) ≡ saysOf 0 f → after ≡ filled f before → f ≡ frame (record { shape = record { kind = k; octets = take n after }; exact = exact })
+      go (frame r) e l =
+          let s = r .shape in
           let kind : s .kind ≡ k = cc in
+          let mark : r .exact ≡ exact = cc in
           let count : length (s .octets) ≡ n = cc in
           let octets : s .octets ≡ take n after = sym (ap (take n) l ∙ take-at (s .octets) _ n count) in
-          λ i. frame (record { kind = kind i; octets = octets i })
+          λ i. frame (record { shape = record { kind = kind i; octets = octets i }; exact = mark i })
       go (wrongCrc p) e l = cc
       go (tooShort p) e l = cc
       go (noFrame p) e l = cc
@@ -39,7 +42,7 @@ module _ (w before after : List ℕ) (a : Answer) (room : octetRoom ≤ length b
   is-none p e = inverts (NoFrame p) (λ f. f ≡ noFrame p) e go
     where
       go : (f : First) → said (NoFrame p) ≡ saysOf 0 f → after ≡ filled f before → f ≡ noFrame p
-      go (frame s) e l = cc
+      go (frame r) e l = cc
       go (wrongCrc q) e l = cc
       go (tooShort q) e l = cc
       go (noFrame q) e l = cc
@@ -49,7 +52,7 @@ module _ (w before after : List ℕ) (a : Answer) (room : octetRoom ≤ length b
   is-short p e = inverts (TooShort p) (λ f. f ≡ tooShort p) e go
     where
       go : (f : First) → said (TooShort p) ≡ saysOf 0 f → after ≡ filled f before → f ≡ tooShort p
-      go (frame s) e l = cc
+      go (frame r) e l = cc
       go (wrongCrc q) e l = cc
       go (tooShort q) e l = cc
       go (noFrame q) e l = cc
@@ -59,7 +62,7 @@ module _ (w before after : List ℕ) (a : Answer) (room : octetRoom ≤ length b
   is-wrong p e = inverts (WrongCrc p) (λ f. f ≡ wrongCrc p) e go
     where
       go : (f : First) → said (WrongCrc p) ≡ saysOf 0 f → after ≡ filled f before → f ≡ wrongCrc p
-      go (frame s) e l = cc
+      go (frame r) e l = cc
       go (wrongCrc q) e l = cc
       go (tooShort q) e l = cc
       go (noFrame q) e l = cc
@@ -70,18 +73,19 @@ module _ (w before after : List ℕ) (a : Answer) (room : octetRoom ≤ length b
   not-small e = inverts SmallBuffer (λ f. ⊥) e go
     where
       go : (f : First) → said SmallBuffer ≡ saysOf 0 f → after ≡ filled f before → ⊥
-      go (frame s) e l = let z : _≡_ {A = ℕ} 0 1 = cc in omega arith
+      go (frame r) e l = let z : _≡_ {A = ℕ} 0 1 = cc in omega arith
       go (wrongCrc q) e l = let z : _≡_ {A = ℕ} 0 1 = cc in omega arith
       go (tooShort q) e l = let z : _≡_ {A = ℕ} 0 1 = cc in omega arith
       go (noFrame q) e l = let z : _≡_ {A = ℕ} 0 1 = cc in omega arith
 
   -- a frame's octets are all there
-  pub count-fits : (k n : ℕ) (c : Cursor) → a ≡ Frame k n c → n ≤ length after
+  pub count-fits : (k : ℕ) (exact : Bool) (n : ℕ) (c : Cursor) → a ≡ Frame k exact n c → n ≤ length after
   unfolding saysOf filled
-  count-fits k n c e = inverts (Frame k n c) (λ f. n ≤ length after) e go
+  count-fits k exact n c e = inverts (Frame k exact n c) (λ f. n ≤ length after) e go
     where
-      go : (f : First) → said (Frame k n c) ≡ saysOf 0 f → after ≡ filled f before → n ≤ length after
-      go (frame s) e l =
+      go : (f : First) → said (Frame k exact n c) ≡ saysOf 0 f → after ≡ filled f before → n ≤ length after
+      go (frame r) e l =
+          let s = r .shape in
           let count : length (s .octets) ≡ n = cc in
           omega (arith, ap length l, length-append (s .octets) (drop (length (s .octets)) before))
       go (wrongCrc p) e l = let z : _≡_ {A = ℕ} 0 1 = cc in absurd (omega arith)

@@ -50,7 +50,7 @@ same-symbols n window h = ap (λ (k : ℕ). take k window) (length-take-le n win
 module _ (n : ℕ) (window : List ℕ) (few : n < length window) (p : ℕ) where
   kept-symbol : (v : ℕ) (f : First) → Kept (set window n v) (onSymbol (Symbol v) p (take n window ++ (v ∷ [])) f)
   unfolding onSymbol
-  kept-symbol v (frame s) = refl
+  kept-symbol v (frame r) = refl
   kept-symbol v (wrongCrc q) = tt
   kept-symbol v (tooShort q) =
       let long : length (take n window ++ (v ∷ [])) ≡ n + 1 = omega (arith, length-append (take n window) (v ∷ []), length-take-le n window (omega arith)) in

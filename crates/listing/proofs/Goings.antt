@@ -13,8 +13,7 @@ use types.Run.{OneOf, miss}
 use denote.Enum.Declared.{tagOf}
 use lib.ListN.{length, take, set, length-append}
 use lib.Seq.{take-suc-set, length-take-le}
-use Rattle.line.specs.Frame.{Shape}
-use Rattle.line.specs.Read.{First, frame, wrongCrc, tooShort, noFrame, first}
+use Rattle.line.specs.Read.{ReadFrame, First, frame, wrongCrc, tooShort, noFrame, first}
 use Rattle.text.specs.Put.{hasRoom, Puts}
 use Rattle.text.proofs.Chars.{and-left, and-right}
 use Rattle.text.proofs.Texts.{nothing, ends-inside}
@@ -57,16 +56,16 @@ module _ (l : Listing) (window out : List ℕ) (at : ℕ) (right : Bounded l) (l
     unfolding stepTo
     by-first f e = ap (onSymbol (Symbol v) (l .before) all) e
 
-    pub goes-frame : (s : Shape) (e : ℕ) (out′ : List ℕ) → first all ≡ frame s → length (s .octets) ≤ 34 → Puts out at (frameText (l .before) s) e out′
+    pub goes-frame : (r : ReadFrame) (e : ℕ) (out′ : List ℕ) → first all ≡ frame r → length (r .shape .octets) ≤ 34 → Puts out at (frameText (l .before) r) e out′
         → Goes l (Symbol v) window out at (record { listing = record { scan = Symbol v; before = l .before + l .count + 1; count = 0 }; ends = false; at = e }) (set window (l .count) v) out′
     unfolding onSymbol fedBy printedBy windowAfter
-    goes-frame s e out′ is few p =
+    goes-frame r e out′ is few p =
         let place : l .before + length all ≡ l .before + l .count + 1 = omega (arith, all-long) in
         record {
-          fed = rw (by-first (frame s) is, place, p .next) refl;
-          stands = rw (by-first (frame s) is) (p .stands);
+          fed = rw (by-first (frame r) is, place, p .next) refl;
+          stands = rw (by-first (frame r) is) (p .stands);
           holds = refl;
-          inside = inside (frameText (l .before) s) (frame-short (l .before) s few) p;
+          inside = inside (frameText (l .before) r) (frame-short (l .before) r few) p;
           few = omega arith;
           counts = omega arith;
         }

@@ -2,15 +2,14 @@
 -- Assumes nothing.
 use mathlib.Core.Path.{_≡_, refl, sym, ap, _∙_}
 use mathlib.Core.Bool.{Bool, true, false}
-use mathlib.Core.List.{List, [], _∷_, _++_, append-assoc, append-nil, map}
+use mathlib.Core.List.{List, [], _∷_, _++_, append-assoc, append-nil}
 use Prim.Native.Nat.{ℕ, _+_}
 use native.Mathlib.Omega.{arith}
 use lib.ListN.{length, length-append}
 use lib.Seq.{append-snoc}
-use Rattle.line.specs.Frame.{Shape, drawn, sealed}
-use Rattle.line.specs.Kind.{common, kindFrom}
-use Rattle.line.specs.Read.{furthest, setOr, setAt, afterSet, shapeAt, First, frame, wrongCrc, tooShort, noFrame, firstOf, first}
-use Rattle.reader.specs.Walk.{Walked, ends, before, walk, drawnAll}
+use Rattle.line.specs.Frame.{drawn}
+use Rattle.line.specs.Read.{setAt, ReadFrame, First, frame, wrongCrc, tooShort, noFrame, afterSet, first}
+use Rattle.reader.specs.Walk.{Walked, ends, before, walk, drawnAll, readExact}
 use Rattle.reader.proofs.Walking.{walks-frames}
 use Rattle.listing.specs.declared.form.Scan.{Scan}
 use Rattle.listing.specs.declared.form.Scan.the-variants.{Begin, Digit, Symbol, Line, Space, Broken}
@@ -25,16 +24,16 @@ use Rattle.listing.proofs.Walks.{frame-all, walk-frame, walk-wrong, wal
 
 -- ---- the text of a walk
 
-text-before : (kept : Bool) (p : ℕ) (s : Shape) (v : Walked)
-    → walkText kept p (before s v) ≡ frameText p s ++ walkText kept (p + length (drawn s)) v
+text-before : (kept : Bool) (p : ℕ) (r : ReadFrame) (v : Walked)
+    → walkText kept p (before r v) ≡ frameText p r ++ walkText kept (p + length (drawn (r .shape))) v
 unfolding walkText framesText before drawnAll
-text-before kept p s v =
-    let n = length (drawn s) in
+text-before kept p r v =
+    let n = length (drawn (r .shape)) in
     let fs = framesText (p + n) (v .frames) in
-    let place : p + length (drawn s ++ drawnAll (v .frames)) ≡ p + n + length (drawnAll (v .frames)) =
-    omega (arith, length-append (drawn s) (drawnAll (v .frames))) in
-    append-assoc (frameText p s) fs _
-    ∙ ap (λ (m : ℕ). frameText p s ++ (fs ++ lastText kept m (v .rest) (v .ended))) place
+    let place : p + length (drawn (r .shape) ++ drawnAll (v .frames)) ≡ p + n + length (drawnAll (v .frames)) =
+    omega (arith, length-append (drawn (r .shape)) (drawnAll (v .frames))) in
+    append-assoc (frameText p r) fs _
+    ∙ ap (λ (m : ℕ). frameText p r ++ (fs ++ lastText kept m (v .rest) (v .ended))) place
 
 text-ends : (kept : Bool) (p : ℕ) (l : List ℕ) (f : First) → walkText kept p (ends l f) ≡ lastText kept p l f
 unfolding walkText framesText ends drawnAll
@@ -47,7 +46,7 @@ unfolding walkText lastText shortText listed
 shows-frames input fs whole is =
     ap (λ (r : ReadText). walkText (r .kept) 0 (walk (r .symbols))) is
     ∙ ap (walkText true 0) (walks-frames fs whole)
-    ∙ append-nil (framesText 0 (map sealed fs))
+    ∙ append-nil (framesText 0 (readExact fs))
 
 -- ---- the text of a record of which some symbols are known
 
@@ -56,12 +55,12 @@ told : ℕ → List ℕ → ReadText → List ℕ
 told p w r = walkText (r .kept) p (walk (w ++ r .symbols))
 
 module _ (p : ℕ) (l : List ℕ) where
-  told-frame : (r : ReadText) (s : Shape) → first l ≡ frame s → drawn s ≡ l → told p l r ≡ frameText p s ++ told (p + length l) [] r
+  told-frame : (r : ReadText) (s : ReadFrame) → first l ≡ frame s → length (drawn (s .shape)) ≡ length l → told p l r ≡ frameText p s ++ told (p + length l) [] r
   unfolding told
   told-frame r s e is =
       ap (walkText (r .kept) p) (walk-frame l (r .symbols) s e is)
       ∙ text-before (r .kept) p s (walk (r .symbols))
-      ∙ ap (λ (d : List ℕ). frameText p s ++ walkText (r .kept) (p + length d) (walk (r .symbols))) is
+      ∙ ap (λ (n : ℕ). frameText p s ++ walkText (r .kept) (p + n) (walk (r .symbols))) is
 
   told-none : (r : ReadText) (q : ℕ) → first l ≡ noFrame q → told p l r ≡ noText 13 (p + q)
   unfolding told lastText
@@ -97,7 +96,7 @@ Lists input =
     (s : ListingState) (q : ℕ) → first (s .symbols) ≡ tooShort q → printedFrom s input ≡ told (s .before) (s .symbols) (toCome (s .scan) input)
 
 nothing : first [] ≡ tooShort 0
-unfolding common kindFrom furthest setOr setAt afterSet shapeAt firstOf first
+unfolding setAt afterSet first
 nothing = refl
 
 module _ (input : List ℕ) (rest : Lists input) (p : ℕ) (w : List ℕ) (q : ℕ) (e : first w ≡ tooShort q) where

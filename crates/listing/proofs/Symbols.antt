@@ -1,7 +1,7 @@
 -- A symbol is put behind those held, and what the reader answers of all of them says how the step goes.
 -- Assumes nothing.
 use mathlib.Core.Path.{_≡_, subst}
-use mathlib.Core.Bool.{true, false}
+use mathlib.Core.Bool.{Bool, true, false}
 use mathlib.Core.List.{List, [], _∷_, _++_}
 use Prim.Native.Nat.{ℕ, _+_, _<_, _≤_, _^_}
 use native.Mathlib.Omega.{arith}
@@ -17,7 +17,8 @@ use Rattle.listing.specs.declared.Listing.{Listing}
 use Rattle.listing.specs.declared.Fed.{Fed}
 use Rattle.listing.specs.Lines.{frameText, noText, frameLineRoom}
 use Rattle.listing.specs.Promises.{windowRoom, Bounded, stopped, Goes}
-use Rattle.listing.proofs.Places.{no-frame-place, wrong-crc-place}
+use Rattle.line.proofs.Exactly.{none-place}
+use Rattle.listing.proofs.Places.{wrong-crc-place}
 use Rattle.listing.proofs.Answers.{is-frame, is-none, is-short, is-wrong, not-small, count-fits}
 use Rattle.listing.proofs.Goings.{one-more, all-long, goes-frame, goes-short, goes-none, goes-wrong, gives}
 
@@ -36,16 +37,16 @@ module _ (l : Listing) (window out : List ℕ) (at : ℕ) (right : Bounded l) (l
   abbrev Ends : Fed → List ℕ → Type 0
   Ends r out′ = Goes l (Symbol v) window out at r (set window (l .count) v) out′
 
-  pub frame-fits : (k n : ℕ) (c : Cursor) → a ≡ Frame k n c → n ≤ length octets
-  frame-fits k n c e = count-fits all lent octets a roomed of-all k n c e
+  pub frame-fits : (k : ℕ) (exact : Bool) (n : ℕ) (c : Cursor) → a ≡ Frame k exact n c → n ≤ length octets
+  frame-fits k exact n c e = count-fits all lent octets a roomed of-all k exact n c e
 
-  pub frame-few : (k n : ℕ) (c : Cursor) → a ≡ Frame k n c → length (take n octets) ≤ 34
-  frame-few k n c e = let h = frame-fits k n c e in omega (arith, length-take-le n octets h)
+  pub frame-few : (k : ℕ) (exact : Bool) (n : ℕ) (c : Cursor) → a ≡ Frame k exact n c → length (take n octets) ≤ 34
+  frame-few k exact n c e = let h = frame-fits k exact n c e in omega (arith, length-take-le n octets h)
 
-  pub answers-frame : (k n : ℕ) (c : Cursor) (e : ℕ) (out′ : List ℕ) → a ≡ Frame k n c → Puts out at (frameText (l .before) (record { kind = k; octets = take n octets })) e out′
+  pub answers-frame : (k : ℕ) (exact : Bool) (n : ℕ) (c : Cursor) (e : ℕ) (out′ : List ℕ) → a ≡ Frame k exact n c → Puts out at (frameText (l .before) (record { shape = record { kind = k; octets = take n octets }; exact = exact })) e out′
       → Ends (record { listing = record { scan = Symbol v; before = l .before + l .count + 1; count = 0 }; ends = false; at = e }) out′
-  answers-frame k n c e out′ is p =
-      goes-frame l window out at right long roomy v (record { kind = k; octets = take n octets }) e out′ (is-frame all lent octets a roomed of-all k n c is) (frame-few k n c is) p
+  answers-frame k exact n c e out′ is p =
+      goes-frame l window out at right long roomy v (record { shape = record { kind = k; octets = take n octets }; exact = exact }) e out′ (is-frame all lent octets a roomed of-all k exact n c is) (frame-few k exact n c is) p
 
   pub answers-short : (q : ℕ) → a ≡ TooShort q
       → Ends (record { listing = record { scan = Symbol v; before = l .before; count = l .count + 1 }; ends = false; at = at }) out
@@ -53,7 +54,7 @@ module _ (l : Listing) (window out : List ℕ) (at : ℕ) (right : Bounded l) (l
 
   pub none-fits : (q : ℕ) → a ≡ NoFrame q → l .before + q < 2 ^ 64
   none-fits q is =
-      omega (arith, no-frame-place all q (is-none all lent octets a roomed of-all q is), all-long l window out at right long roomy v, right .fits)
+      omega (arith, none-place all q (is-none all lent octets a roomed of-all q is), all-long l window out at right long roomy v, right .fits)
 
   pub answers-none : (q e : ℕ) (out′ : List ℕ) (r : Fed) → a ≡ NoFrame q → Puts out at (noText 13 (l .before + q)) e out′ → r ≡ stopped l e → Ends r out′
   answers-none q e out′ r is p g = gives g (goes-none l window out at right long roomy v q e out′ (is-none all lent octets a roomed of-all q is) p)

@@ -1,17 +1,25 @@
 -- The walk over a record, symbol by symbol: what a record begins with stays when more symbols follow, unless it was too short.
 -- Assumes nothing.
 use mathlib.Core.Path.{_≡_, refl, sym, ap, _∙_, subst}
-use mathlib.Core.List.{List, [], _∷_, _++_, append-assoc, append-nil}
-use Prim.Native.Nat.{ℕ, suc, _≤_}
+use mathlib.Core.Bool.{Bool, true, false, cond}
+use mathlib.Core.List.{List, [], _∷_, _++_, append-assoc}
+use mathlib.Core.Logic.{_⊎_, inl, inr}
+use Prim.Native.Nat.{ℕ, zero, suc, _+_, _<_, _≤_}
 use native.Mathlib.Omega.{arith}
-use native.Mathlib.Decide.{decLe}
-use lib.ListN.{length, take, drop, length-append, take-append-drop}
-use lib.Seq.{take-length, take-take, take-append-le, take-append-seam, drop-append-seam}
-use Rattle.line.specs.Frame.{Shape, Shaped, drawn, sealed, symbolsOf}
-use Rattle.line.specs.Read.{Look, found, short, misfit, First, frame, wrongCrc, tooShort, noFrame, firstOf, shapeAt, first}
-use Rattle.line.proofs.Looks.{empty, Begun, Stands, Ends, Says}
-use Rattle.line.proofs.Shapes.{shape-back, shape-says}
-use Rattle.line.proofs.Exactly.{reads-back, frame-exactly}
+use native.Mathlib.Decide.{decLe, decLt}
+use borrow.Author.Tests.{eq-eqb, ne-eqb}
+use lib.ListN.{length, take, drop, length-append, take-append-drop, List·getD-append}
+use lib.Seq.{take-append-le, take-append-seam, drop-append-le, drop-append-seam}
+use Rattle.line.specs.Symbol.{isNibble}
+use Rattle.line.specs.Kind.{setOf, carries}
+use Rattle.line.specs.Frame.{Shape, drawn, symbolsOf}
+use Rattle.line.specs.Read.{Look, found, short, misfit, TakenSet, setAt, nibbleRun, endOr, bodyAt, withSet, shapeBehind, ReadFrame, First, frame, wrongCrc, tooShort, noFrame, firstOf, afterSet, first}
+use Rattle.line.specs.Taken.{TakenAs, straight}
+use Rattle.line.proofs.Agreeing.{SetMeans, set-means, taken-set, set-stays}
+use Rattle.line.proofs.Bodies.{run}
+use Rattle.line.proofs.Shapes.{drawn-some}
+use Rattle.line.proofs.Exactly.{sealed-shaped, straight-long, frame-exactly, too-short-exactly}
+use Rattle.line.proofs.Tails.{frame-lies}
 use Rattle.reader.specs.Walk.{ends, before, onward, walk}
 use Rattle.reader.proofs.Walking.{walk-goes-on}
 
@@ -22,114 +30,129 @@ longer a b c d e h =
     let front : take n a ≡ c = sym (take-append-le n a b h) ∙ ap (take n) e ∙ take-append-seam c d in
     sym (take-append-drop n a) ∙ ap (λ (x : List ℕ). x ++ drop n a) front
 
--- ---- beginnings of shapes
+-- ---- nibbles that end inside a record end there whatever follows
 
--- l begins a shape, or is one
-abbrev Opens : List ℕ → Type 0
-Opens l = Begun Shaped drawn l
+run-stays : (m : ℕ) (l ys : List ℕ) → nibbleRun m l < length l → nibbleRun m (l ++ ys) ≡ nibbleRun m l
+unfolding nibbleRun
+run-stays zero l ys h = refl
+run-stays (suc m) [] ys h = absurd (omega arith)
+run-stays (suc m) (s ∷ l) ys h = go (isNibble s) h (run-stays m l ys)
+  where
+    go : (b : Bool) → cond b (suc (nibbleRun m l)) 0 < suc (length l) → (nibbleRun m l < length l → nibbleRun m (l ++ ys) ≡ nibbleRun m l)
+        → cond b (suc (nibbleRun m (l ++ ys))) 0 ≡ cond b (suc (nibbleRun m l)) 0
+    go true h ih = ap suc (ih (omega arith))
+    go false h ih = refl
 
-opens-early : (l : List ℕ) (m n : ℕ) → m ≤ n → Opens (take n l) → Opens (take m l)
-opens-early l m n h b =
-    let a = take n l in
-    let front : take m l ++ drop m a ≡ a = ap (λ (x : List ℕ). x ++ drop m a) (sym (take-take m n l h)) ∙ take-append-drop m a in
-    record {
-      thing = b .thing;
-      right = b .right;
-      rest = drop m a ++ b .rest;
-      is = sym (append-assoc (take m l) (drop m a) (b .rest)) ∙ ap (λ (x : List ℕ). x ++ b .rest) front ∙ b .is;
-    }
+-- what is behind a set is too short, or the same with more behind it
+body-stays : (l ys : List ℕ) → (bodyAt l ≡ short (length l)) ⊎ (bodyAt (l ++ ys) ≡ bodyAt l)
+unfolding bodyAt endOr
+body-stays l ys =
+    let n = nibbleRun 68 l in
+    elim (decLt n (length l)) [
+      | yes h ↦
+          let longer : n < length (l ++ ys) = omega (arith, length-append l ys) in
+          inr
+          (ap (λ (i : ℕ). endOr i (l ++ ys)) (run-stays 68 l ys h)
+          ∙ simp (ne-eqb n (length (l ++ ys)) (λ e. omega arith), ne-eqb n (length l) (λ e. omega arith), List·getD-append l ys 0 n h, take-append-le n l ys (omega arith)))
+      | no h ↦ let e : n ≡ length l = omega (arith, run 68 l .within) in inl (simp (eq-eqb n (length l) e) (ap short e))
+    ]
 
--- ---- where no shape is there, more symbols make none
-
-module _ (l ys : List ℕ) (p : ℕ) (e : shapeAt l ≡ misfit p) where
-  ends-there : Ends Shaped drawn l p
-  ends-there = subst (Says Shaped drawn l) e (shape-says l)
-
-  -- the symbol at the place is there already, and no shape goes past it
-  no-further : (n : ℕ) → Opens (take n (l ++ ys)) → n ≤ p
-  no-further n b =
-      let t = ends-there in
-      elim (decLe n p) [
-        | yes h ↦ h
-        | no h ↦
-            let c : Opens (take (suc p) (l ++ ys)) = opens-early (l ++ ys) (suc p) n (omega arith) b in
-            absurd (t .no-more (rw (take-append-le (suc p) l ys (t .within)) at c))
-      ]
-
-  unfound : (s : Shape) → Stands Shaped drawn (l ++ ys) s → ⊥
-  unfound s st =
-      let n = length (drawn s) in
-      let all-of : take n (l ++ ys) ≡ drawn s = ap (take n) (st .is) ∙ take-append-seam (drawn s) (st .rest) in
-      let b : Opens (take n (l ++ ys)) = record { thing = s; right = st .right; rest = []; is = append-nil _ ∙ all-of } in
-      let w = ends-there .within in
-      let is = longer l ys (drawn s) (st .rest) (st .is) (omega (arith, no-further n b)) in
-      let f : shapeAt l ≡ found s = ap shapeAt is ∙ shape-back s (drop n l) (st .right) in
-      let z : _≡_ {A = ℕ} 0 1 = cc in
-      omega arith
-
-  misfit-stays : (r : Look Shape) → Says Shaped drawn (l ++ ys) r → r ≡ misfit p
-  misfit-stays (found s) st = absurd (unfound s st)
-  misfit-stays (short q) t =
-      let b : Opens (take (length (l ++ ys)) (l ++ ys)) = rw take-length (t .0 .begun) in
-      let w = ends-there .within in
-      absurd (omega (arith, length-append l ys, no-further (length (l ++ ys)) b))
-  misfit-stays (misfit q) t =
-      let w = ends-there .within in
-      let b : Opens (take p (l ++ ys)) = rw (take-append-le p l ys (omega arith)) (ends-there .part .begun) in
-      elim (decLe p q) [
-        | yes h ↦ ap misfit (omega (arith, no-further q (t .part .begun)))
-        | no h ↦ absurd (t .no-more (opens-early (l ++ ys) (suc q) p (omega arith) b))
-      ]
+shape-stays : (k : ℕ) (l ys : List ℕ) → (shapeBehind k l ≡ short (4 + length l)) ⊎ (shapeBehind k (l ++ ys) ≡ shapeBehind k l)
+unfolding shapeBehind withSet
+shape-stays k l ys = go (carries k) (body-stays l ys)
+  where
+    go : (b : Bool) → (bodyAt l ≡ short (length l)) ⊎ (bodyAt (l ++ ys) ≡ bodyAt l)
+        → (cond b (withSet k (bodyAt l)) (found (record { kind = k; octets = [] })) ≡ short (4 + length l))
+        ⊎ (cond b (withSet k (bodyAt (l ++ ys))) (found (record { kind = k; octets = [] })) ≡ cond b (withSet k (bodyAt l)) (found (record { kind = k; octets = [] })))
+    go true (inl e) = inl (ap (withSet k) e)
+    go true (inr e) = inr (ap (withSet k) e)
+    go false e = inr refl
 
 -- ---- what a record begins with, and more symbols
 
 -- answers that are known whatever follows
 abbrev pub Settled : First → Type 0
-Settled (frame s) = Unit {0}
+Settled (frame r) = Unit {0}
 Settled (wrongCrc p) = Unit {0}
 Settled (tooShort p) = ⊥
 Settled (noFrame p) = Unit {0}
 
-pub first-stays : (l ys : List ℕ) (f : First) → first l ≡ f → Settled f → first (l ++ ys) ≡ f
-unfolding first firstOf
-first-stays l ys f e settled = ap firstOf (go (shapeAt l) refl (shape-says l)) ∙ e
+-- with four symbols or more
+long-stays : (l ys : List ℕ) → 4 ≤ length l → Settled (first l) → first (l ++ ys) ≡ first l
+unfolding first afterSet firstOf
+long-stays l ys h settled = ap (λ (r : Look TakenSet). afterSet r (l ++ ys)) (set-stays l ys h) ∙ go (setAt l) settled
   where
-    go : (r : Look Shape) → shapeAt l ≡ r → Says Shaped drawn l r → shapeAt (l ++ ys) ≡ shapeAt l
-    go (found s) q st =
-        ap shapeAt (ap (λ (x : List ℕ). x ++ ys) (st .is) ∙ append-assoc (drawn s) (st .rest) ys)
-        ∙ shape-back s (st .rest ++ ys) (st .right)
-        ∙ sym q
-    go (short p) q t = absurd (subst Settled (sym e ∙ ap firstOf q) settled)
-    go (misfit p) q t = misfit-stays l ys p q (shapeAt (l ++ ys)) (shape-says (l ++ ys)) ∙ sym q
+    go : (r : Look TakenSet) → Settled (afterSet r l) → afterSet r (l ++ ys) ≡ afterSet r l
+    go (found t) s =
+        ap (λ (x : List ℕ). firstOf (t .exact) (shapeBehind (t .kind) x)) (drop-append-le 4 l ys h)
+        ∙ elim (shape-stays (t .kind) (drop 4 l) ys) [
+          | inl e ↦ absurd (subst (λ (r : Look Shape). Settled (firstOf (t .exact) r)) e s)
+          | inr e ↦ ap (firstOf (t .exact)) e
+        ]
+    go (short p) s = refl
+    go (misfit p) s = refl
+
+pub first-stays : (l ys : List ℕ) (f : First) → first l ≡ f → Settled f → first (l ++ ys) ≡ f
+first-stays l ys f e settled =
+    elim (decLt (length l) 4) [
+      | yes h ↦ absurd (subst Settled (sym e ∙ too-short-exactly l (length l) .1 (inl h, refl)) settled)
+      | no h ↦ long-stays l ys (omega arith) (subst Settled (sym e) settled) ∙ e
+    ]
+
+-- a frame that ends before a symbol stands there without it
+ended-before : (w : List ℕ) (x : ℕ) (r : ReadFrame) → first (w ++ (x ∷ [])) ≡ frame r → length (drawn (r .shape)) ≤ length w → first w ≡ frame r
+unfolding symbolsOf straight
+ended-before w x r f few =
+    let s = r .shape in
+    let l = w ++ (x ∷ []) in
+    let h = frame-exactly l s (r .exact) .0 f in
+    let i = h .1 in
+    let same : length (drawn s) ≡ length (symbolsOf (i .frame)) = ap (λ (t : Shape). length (drawn t)) (i .seals) in
+    let some : 4 ≤ length w = omega (arith, same, drawn-some (sealed-shaped (i .frame) (i .whole))) in
+    let set : setAt w ≡ found (record { kind = s .kind; exact = r .exact }) = sym (set-stays w (x ∷ []) some) ∙ taken-set l (s .kind) (r .exact) (h .0) in
+    let taken : TakenAs w (s .kind) (r .exact) = subst (SetMeans w) set (set-means w) in
+    let is : straight (s .kind) w ++ (x ∷ []) ≡ symbolsOf (i .frame) ++ i .rest =
+    append-assoc (setOf (s .kind)) (drop 4 w) (x ∷ []) ∙ ap (λ (y : List ℕ). setOf (s .kind) ++ y) (sym (drop-append-le 4 w (x ∷ []) some)) ∙ i .is in
+    let long = straight-long w (s .kind) (r .exact) taken in
+    frame-exactly w s (r .exact) .1 (
+      taken,
+      record {
+        frame = i .frame;
+        whole = i .whole;
+        seals = i .seals;
+        rest = drop (length (symbolsOf (i .frame))) (straight (s .kind) w);
+        is = longer (straight (s .kind) w) (x ∷ []) (symbolsOf (i .frame)) (i .rest) is (omega (arith, same));
+      },
+    )
 
 -- the frame that a symbol ends is all of the record, since none ended before it
-pub frame-all : (w : List ℕ) (x q : ℕ) (s : Shape) → first w ≡ tooShort q → first (w ++ (x ∷ [])) ≡ frame s → drawn s ≡ w ++ (x ∷ [])
-unfolding symbolsOf
-frame-all w x q s e f =
-    let h = frame-exactly (w ++ (x ∷ [])) s .0 f in
-    let d = symbolsOf (h .frame) in
-    let n = simp length-append at (ap length (h .is)) in
-    let none : h .rest ≡ [] =
-    elim (decLe (length d) (length w)) [
+pub frame-all : (w : List ℕ) (x q : ℕ) (r : ReadFrame) → first w ≡ tooShort q → first (w ++ (x ∷ [])) ≡ frame r
+    → length (drawn (r .shape)) ≡ length (w ++ (x ∷ []))
+frame-all w x q r e f =
+    let s = r .shape in
+    let l = w ++ (x ∷ []) in
+    let taken = frame-exactly l s (r .exact) .0 f .0 in
+    let n = simp length-append at (ap length (frame-lies l r f)) in
+    let m = length-append w (x ∷ []) in
+    let long = straight-long l (s .kind) (r .exact) taken in
+    elim (decLe (length (drawn s)) (length w)) [
       | yes k ↦
-          let sooner : first w ≡ frame (sealed (h .frame)) =
-          ap first (longer w (x ∷ []) d (h .rest) (h .is) k) ∙ reads-back (h .frame) (drop (length d) w) (h .whole) in
-          let z : _≡_ {A = ℕ} 0 1 = cc in
+          let z : _≡_ {A = First} (tooShort q) (frame r) = sym e ∙ ended-before w x r f k in
+          let zero : _≡_ {A = ℕ} 0 1 = cc in
           absurd (omega arith)
-      | no k ↦ empty (h .rest) (omega arith)
-    ] in
-    ap drawn (h .seals) ∙ sym (h .is ∙ ap (λ (r : List ℕ). d ++ r) none ∙ append-nil d)
+      | no k ↦ omega arith
+    ]
 
 -- ---- the walk
 
 walk-by : (l : List ℕ) (f : First) → first l ≡ f → walk l ≡ onward l f walk
 walk-by l f e = walk-goes-on l ∙ ap (λ (a : First). onward l a walk) e
 
-pub walk-frame : (l ys : List ℕ) (s : Shape) → first l ≡ frame s → drawn s ≡ l → walk (l ++ ys) ≡ before s (walk ys)
+pub walk-frame : (l ys : List ℕ) (r : ReadFrame) → first l ≡ frame r → length (drawn (r .shape)) ≡ length l → walk (l ++ ys) ≡ before r (walk ys)
 unfolding onward
-walk-frame l ys s e is =
-    let rest : drop (length (drawn s)) (l ++ ys) ≡ ys = ap (λ (d : List ℕ). drop (length d) (l ++ ys)) is ∙ drop-append-seam l ys in
-    walk-by (l ++ ys) (frame s) (first-stays l ys (frame s) e tt) ∙ ap (λ (r : List ℕ). before s (walk r)) rest
+walk-frame l ys r e long =
+    let rest : drop (length (drawn (r .shape))) (l ++ ys) ≡ ys = ap (λ (n : ℕ). drop n (l ++ ys)) long ∙ drop-append-seam l ys in
+    walk-by (l ++ ys) (frame r) (first-stays l ys (frame r) e tt) ∙ ap (λ (x : List ℕ). before r (walk x)) rest
 
 pub walk-none : (l ys : List ℕ) (p : ℕ) → first l ≡ noFrame p → walk (l ++ ys) ≡ ends (l ++ ys) (noFrame p)
 unfolding onward

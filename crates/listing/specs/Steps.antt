@@ -26,7 +26,7 @@ pub data Step : Type 0 where
 
 -- by what the symbols are now, the last one among them
 unfoldable pub onSymbol : Scan → ℕ → List ℕ → First → Step
-onSymbol s p w (frame f) = goes (frameText p f) (record { scan = s; before = p + length w; symbols = [] })
+onSymbol s p w (frame r) = goes (frameText p r) (record { scan = s; before = p + length w; symbols = [] })
 onSymbol s p w (noFrame q) = stops (noText 13 (p + q))
 onSymbol s p w (tooShort q) = goes [] (record { scan = s; before = p; symbols = w })
 onSymbol s p w (wrongCrc q) = stops (noText 15 (p + q))

@@ -2,10 +2,11 @@
 -- Assumes nothing.
 use mathlib.Core.Path.{_≡_}
 use mathlib.Core.Bool.{true}
-use mathlib.Core.List.{List, map}
+use mathlib.Core.List.{List}
 use Prim.Native.Nat.{ℕ, _+_, _<_, _^_}
 use lib.ListN.{length}
-use Rattle.line.specs.Frame.{Frame, AllWhole, sealed, joined}
+use Rattle.line.specs.Frame.{Frame, AllWhole, joined}
+use Rattle.reader.specs.Walk.{readExact}
 use Rattle.listing.specs.declared.Listing.{Listing}
 use Rattle.listing.specs.declared.Fed.{Fed}
 use Rattle.listing.specs.Form.{recorded}
@@ -14,12 +15,12 @@ use Rattle.listing.specs.Steps.{emptyState, printedFrom}
 use Rattle.listing.specs.Promises.{windowRoom, Right, listingOf, BeginsListing, Feeds, Finishes}
 use Rattle.listing.specs.Calls.{CallsPrint}
 
--- ---- 1. Of whole frames each is shown, and nothing more
+-- ---- 1. Of whole frames each is shown, none with a mark, and nothing more
 
 abbrev pub ShowsFrames : Type 0
 ShowsFrames =
     (input : List ℕ) (fs : List Frame) → AllWhole fs → recorded input ≡ record { symbols = joined fs; kept = true }
-    → listed input ≡ framesText 0 (map sealed fs)
+    → listed input ≡ framesText 0 (readExact fs)
 
 -- ---- 2. Character by character, all of an input is listed
 

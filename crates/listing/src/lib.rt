@@ -24,8 +24,8 @@ ghost use Rattle.listing.specs.declared.form.Scan.the-variants.{Symbol};
 ghost use Rattle.listing.specs.Steps.{endText};
 ghost use Rattle.listing.specs.Promises.{Bounded, inBounds, stopped, Goes, BeginsListing, Feeds, Finishes};
 
-// Room for any line: a place, a space and the kind, 34 octets, LF.
-pub const FRAME_LINE_ROOM: usize = 125;
+// Room for any line: a place, a space, the kind and its mark, 34 octets, LF.
+pub const FRAME_LINE_ROOM: usize = 126;
 
 // The longest frame.
 const WINDOW_ROOM: usize = 73;
@@ -76,6 +76,7 @@ fn symbol(listing: Listing, v: u8, window: &mut [u8], out: &mut [u8], at: usize)
     match read_frame(&window[..n + 1], Cursor { at: 0 }, &mut octets) {
         Answer::Frame {
             kind,
+            exact,
             count,
             next: _,
         } => Fed {
@@ -85,7 +86,7 @@ fn symbol(listing: Listing, v: u8, window: &mut [u8], out: &mut [u8], at: usize)
                 count: 0,
             },
             ends: false,
-            at: put_frame(place, kind, &octets[..count], out, at),
+            at: put_frame(place, kind, exact, &octets[..count], out, at),
         },
         Answer::TooShort(_) => Fed {
             listing: Listing {

@@ -5,21 +5,39 @@ use text::put::put_octets;
 use text::put::put_text;
 ghost use Prim.Native.Nat.{_+_, _≤_};
 ghost use lib.ListN.{length};
-ghost use Rattle.text.specs.Put.{Puts};
-ghost use Rattle.listing.specs.Lines.{frameText, noText, badOctetText, frameLineRoom};
+ghost use Rattle.text.specs.Put.{hasRoom, Puts, Prints};
+ghost use Rattle.listing.specs.Lines.{markText, frameText, noText, badOctetText, frameLineRoom};
 
 // As many digits as any place or number has.
 const PLACE_DIGITS: usize = 20;
 
-pub(crate) fn put_frame(place: usize, kind: u8, octets: &[u8], out: &mut [u8], at: usize) -> usize
+// `~` behind the kind of a frame whose set was not exact.
+fn put_mark(exact: bool, out: &mut [u8], at: usize) -> usize
+    ensures { λ r. ⌜ Prints (hasRoom 1 (now (out .entry)) at) (now (out .entry)) at (markText exact) r (now (out .exit)) ⌝ }
+{
+    if exact {
+        return at;
+    }
+    put(b'~', out, at)
+}
+
+pub(crate) fn put_frame(
+    place: usize,
+    kind: u8,
+    exact: bool,
+    octets: &[u8],
+    out: &mut [u8],
+    at: usize,
+) -> usize
     requires { ⌜ (length (now octets) ≤ 34) × (at + frameLineRoom ≤ length (now out)) ⌝ }
-    ensures { λ r. ⌜ Puts (now (out .entry)) at (frameText place (record { kind = kind; octets = now (octets .entry) })) r (now (out .exit)) ⌝ }
+    ensures { λ r. ⌜ Puts (now (out .entry)) at (frameText place (record { shape = record { kind = kind; octets = now (octets .entry) }; exact = exact })) r (now (out .exit)) ⌝ }
 {
     let a = put_decimal(place, PLACE_DIGITS, out, at);
     let b = put(b' ', out, a);
     let c = put_decimal(kind as usize, 1, out, b);
-    let d = put_octets(octets, out, c);
-    put(b'\n', out, d)
+    let d = put_mark(exact, out, c);
+    let e = put_octets(octets, out, d);
+    put(b'\n', out, e)
 }
 
 pub(crate) fn put_no(number: usize, place: usize, out: &mut [u8], at: usize) -> usize

@@ -36,9 +36,9 @@ sameReply (no m) (no n) = eqb m n
 sameSaid : Said → Said → Bool
 sameSaid (noAt m p) (noAt n q) = eqb m n && eqb p q
 sameSaid (noAt m p) (saidNo n) = false
-sameSaid (noAt m p) (wasRead k n q) = false
+sameSaid (noAt m p) (wasRead k exact n q) = false
 sameSaid (saidNo n) t = false
-sameSaid (wasRead k n q) t = false
+sameSaid (wasRead k exact n q) t = false
 
 holds : Case → Bool
 holds (device given e r symbols tx rx) =
@@ -70,9 +70,9 @@ same-said : (r s : Said) → sameSaid r s ≡ true → r ≡ s
 unfolding sameSaid
 same-said (noAt m p) (noAt n q) e = let b = and-eq-true-iff (eqb m n) (eqb p q) .0 e in ap₂ noAt (eqb-true m n (b .0)) (eqb-true p q (b .1))
 same-said (noAt m p) (saidNo n) e = let z : _≡_ {A = ℕ} 0 1 = cc in absurd (omega arith)
-same-said (noAt m p) (wasRead k n q) e = let z : _≡_ {A = ℕ} 0 1 = cc in absurd (omega arith)
+same-said (noAt m p) (wasRead k exact n q) e = let z : _≡_ {A = ℕ} 0 1 = cc in absurd (omega arith)
 same-said (saidNo n) t e = let z : _≡_ {A = ℕ} 0 1 = cc in absurd (omega arith)
-same-said (wasRead k n q) t e = let z : _≡_ {A = ℕ} 0 1 = cc in absurd (omega arith)
+same-said (wasRead k exact n q) t e = let z : _≡_ {A = ℕ} 0 1 = cc in absurd (omega arith)
 
 shown : (c : Case) → holds c ≡ true → CaseHolds c
 unfolding holds

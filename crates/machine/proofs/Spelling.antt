@@ -8,13 +8,11 @@ use Prim.Native.Nat.{ℕ, _+_, _-_, _<_, _≤_}
 use native.Mathlib.Omega.{arith}
 use borrow.Author.Tests.{ltb-true, leb-true, eqb-true, lt-ltb, le-leb}
 use lib.Dec.{eqb, leb}
-use lib.ListN.{length, take, drop, getD, length-map, length-drop, length-append, take-append-drop}
-use lib.Seq.{length-take-le, drop-cons, drop-drop, take-at, drop-at, getD-at, drop-append-seam}
+use lib.ListN.{length, take, drop, getD, length-map, length-drop, take-append-drop}
+use lib.Seq.{take-all, length-take-le, drop-cons, drop-drop, take-at, drop-at, getD-at, drop-append-seam}
 use Rattle.line.specs.Kind.{orderedSets, kinds, sopKinds, setOf, carries, common, kindFrom}
 use Rattle.line.specs.Frame.{Frame, Octets, Whole}
-use Rattle.line.specs.Read.{found, short, misfit, setOr, setAt}
-use Rattle.line.proofs.Looks.{empty, Stands, Says}
-use Rattle.line.proofs.Starts.{set-length, set-back, IsKind, set-says}
+use Rattle.line.proofs.Starts.{set-length, set-kind, kind-set}
 use Rattle.machine.specs.Queue.{setSymbol, announced, sameList, closing, speltBy, spelt}
 use Rattle.machine.specs.Theorems.{Spells, SpeltExactly}
 
@@ -48,26 +46,11 @@ announces n lo hi = rw (le-leb 0x82 (0x80 + n) (omega arith), le-leb (0x80 + n) 
 
 -- ---- the kind of a set of four
 
-kind-set : (l : List ℕ) (k : ℕ) → length l ≡ 4 → kindFrom 0 orderedSets l ≡ some k → l ≡ setOf k
-unfolding setAt setOr
-kind-set l k four e =
-    let found-k : setAt l ≡ found k = rw e in
-    let st : Stands IsKind setOf l k = subst (Says IsKind setOf l) found-k (set-says l) in
-    let none-left = empty (st .rest) (omega (arith, simp length-append at (ap length (st .is)), set-length k (st .right))) in
-    st .is ∙ ap (λ (r : List ℕ). setOf k ++ r) none-left ∙ append-nil (setOf k)
+four-set : (l : List ℕ) (k : ℕ) → length l ≡ 4 → kindFrom 0 orderedSets l ≡ some k → l ≡ setOf k
+four-set l k four e = sym (take-all 4 l (omega arith)) ∙ kind-set l k e .same
 
-kind-found : (o : Option ℕ) (p n k : ℕ) → setOr o p n ≡ found k → o ≡ some k
-unfolding setOr
-kind-found (some j) p n k e = cc
-kind-found none p n k e = go (eqb p n) e
-  where
-    go : (b : Bool) → cond b (short p) (misfit p) ≡ found k → none ≡ some k
-    go true e = cc
-    go false e = cc
-
-set-kind : (k : ℕ) → k < kinds → kindFrom 0 orderedSets (setOf k) ≡ some k
-unfolding setAt
-set-kind k h = kind-found _ _ _ k (ap setAt (sym (append-nil (setOf k))) ∙ set-back k [] h)
+kind-alone : (k : ℕ) → k < kinds → kindFrom 0 orderedSets (setOf k) ≡ some k
+kind-alone k h = ap (kindFrom 0 orderedSets) (sym (append-nil (setOf k))) ∙ set-kind k [] h
 
 -- a set has four tokens
 pub set-four : (set : List ℕ) (k : ℕ) → map setSymbol set ≡ setOf k → k < kinds → length set ≡ 4
@@ -90,7 +73,7 @@ parts q k begins sop many ends =
     record {
       set = take 4 q;
       sop = sop;
-      tokens = kind-set _ k (length-map (take 4 q) setSymbol ∙ length-take-le 4 q (omega arith)) begins;
+      tokens = four-set _ k (length-map (take 4 q) setSymbol ∙ length-take-le 4 q (omega arith)) begins;
       many = omega arith;
       few = omega (arith, token .1);
       is =
@@ -141,7 +124,7 @@ spelt-of q f s =
       take-at,
       getD-at,
       s .tokens,
-      set-kind (f .kind) (omega arith),
+      kind-alone (f .kind) (omega arith),
       announces n lo (s .few),
       lt-ltb (f .kind) sopKinds h,
       le-leb 2 n lo,

@@ -69,11 +69,11 @@ one-call : (line : List ℕ) (at : ℕ) (b : List ℕ) (bs : List (List ℕ)) (g
     → Told (behind at (said (g .answer))) (walk (drop (behind at (said (g .answer))) line)) bs gs end
     → Told at (onward (drop at line) f walk) (b ∷ bs) (g ∷ gs) end
 unfolding onward ends before behind saysOf
-one-call line at b bs g gs end (frame s) e t more =
-    let to : behind at (said (g .answer)) ≡ at + length (drawn s) = ap (behind at) (t .says) in
-    let rest : drop (at + length (drawn s)) line ≡ drop (length (drawn s)) (drop at line) = sym (drop-drop (length (drawn s)) at line) in (
+one-call line at b bs g gs end (frame r) e t more =
+    let to : behind at (said (g .answer)) ≡ at + length (drawn (r .shape)) = ap (behind at) (t .says) in
+    let rest : drop (at + length (drawn (r .shape))) line ≡ drop (length (drawn (r .shape))) (drop at line) = sym (drop-drop (length (drawn (r .shape))) at line) in (
       t,
-      subst (λ (l : List ℕ). Told (at + length (drawn s)) (walk l) bs gs end) rest
+      subst (λ (l : List ℕ). Told (at + length (drawn (r .shape))) (walk l) bs gs end) rest
           (subst (λ (p : ℕ). Told p (walk (drop p line)) bs gs end) to more),
     )
 one-call line at b bs g gs end (wrongCrc p) e t more = (t, ended line at bs gs end (wrongCrc p) _ e refl (ap (behind at) (t .says)) more)

@@ -5,8 +5,8 @@ use mathlib.Core.List.{List, [], _∷_}
 use Prim.Native.Nat.{ℕ, _+_, _≤_}
 use lib.ListN.{length}
 use Rattle.line.specs.declared.read.Answer.{Answer}
-use Rattle.line.specs.Frame.{Shape, drawn}
-use Rattle.line.specs.Read.{First, frame}
+use Rattle.line.specs.Frame.{drawn}
+use Rattle.line.specs.Read.{ReadFrame, First, frame}
 use Rattle.line.specs.Reader.{octetRoom, said, behind, Tells, Reads}
 use Rattle.reader.specs.declared.Reader.{Reader}
 use Rattle.reader.specs.Step.{Nexts}
@@ -36,10 +36,10 @@ AllRoom [] = Unit {0}
 AllRoom (b ∷ bs) = (octetRoom ≤ length b) × AllRoom bs
 
 -- the calls tell of these frames in turn, each at the place behind the one before, and from then on of what ends the walk
-abbrev pub AllTold : ℕ → List Shape → First → List (List ℕ) → List Returned → ℕ → Type 0
-AllTold at ss f [] [] end = end ≡ at
-AllTold at ss f [] (g ∷ gs) end = ⊥
-AllTold at ss f (b ∷ bs) [] end = ⊥
+abbrev pub AllTold : ℕ → List ReadFrame → First → List (List ℕ) → List Returned → ℕ → Type 0
+AllTold at rs f [] [] end = end ≡ at
+AllTold at rs f [] (g ∷ gs) end = ⊥
+AllTold at rs f (b ∷ bs) [] end = ⊥
 AllTold at [] f (b ∷ bs) (g ∷ gs) end = Tells at f b (g .answer) (g .octets) × AllTold at [] f bs gs end
-AllTold at (s ∷ ss) f (b ∷ bs) (g ∷ gs) end =
-    Tells at (frame s) b (g .answer) (g .octets) × AllTold (at + length (drawn s)) ss f bs gs end
+AllTold at (r ∷ rs) f (b ∷ bs) (g ∷ gs) end =
+    Tells at (frame r) b (g .answer) (g .octets) × AllTold (at + length (drawn (r .shape))) rs f bs gs end

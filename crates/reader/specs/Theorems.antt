@@ -1,18 +1,18 @@
 -- What holds of a reader and of its walk; proofs/ has the proof of each statement.
 -- Assumes nothing.
 use mathlib.Core.Path.{_≡_}
-use mathlib.Core.List.{List, [], _++_, map}
+use mathlib.Core.List.{List, [], _++_}
 use mathlib.Core.Logic.{_↔_, _⊎_}
 use Prim.Native.Nat.{ℕ}
 use denote.Ref.{RefT, now}
 use Rattle.line.specs.declared.read.Answer.{Answer}
-use Rattle.line.specs.Frame.{Frame, AllWhole, sealed, joined}
+use Rattle.line.specs.Frame.{Frame, AllWhole, joined}
 use Rattle.line.specs.Read.{First, wrongCrc, tooShort, noFrame, first}
 use Rattle.line.specs.Theorems.{SameSlice}
 use Rattle.reader.specs.declared.Moved.{Moved}
 use Rattle.reader.specs.declared.Reader.{Reader}
 use Rattle.reader.specs.Step.{Steps, Starts, Nexts, IsPlace, unread, IsUnread}
-use Rattle.reader.specs.Walk.{onward, walk, drawnAll}
+use Rattle.reader.specs.Walk.{onward, walk, drawnAll, readExact, AllExact, Lies}
 use Rattle.reader.specs.Calls.{Returned, ByCursor, ByReader, AllRoom, AllTold}
 
 -- ---- 1. The walk over any record: on behind each frame, to the first place where there is none
@@ -28,14 +28,18 @@ pub record NoMore (f : First) : Type 0 where
 abbrev pub WalkEnds : Type 0
 WalkEnds = (line : List ℕ) → NoMore (walk line .ended) × (walk line .ended ≡ first (walk line .rest))
 
--- what is read and what is left is the record
-abbrev pub WalkKeeps : Type 0
-WalkKeeps = (line : List ℕ) → drawnAll (walk line .frames) ++ walk line .rest ≡ line
+-- what is read and what is left is the record, in the frames' order
+abbrev pub WalkLies : Type 0
+WalkLies = (line : List ℕ) → Lies (walk line .frames) (walk line .rest) line
 
--- ---- 2. The walk over whole frames gives these frames, and ends with 14, place 0, with nothing left
+-- to the symbol, where all sets are exact
+abbrev pub WalkKeeps : Type 0
+WalkKeeps = (line : List ℕ) → AllExact (walk line .frames) → drawnAll (walk line .frames) ++ walk line .rest ≡ line
+
+-- ---- 2. The walk over whole frames gives these frames, all as exact, and ends with 14, place 0, with nothing left
 
 abbrev pub WalksFrames : Type 0
-WalksFrames = (fs : List Frame) → AllWhole fs → walk (joined fs) ≡ record { frames = map sealed fs; rest = []; ended = tooShort 0 }
+WalksFrames = (fs : List Frame) → AllWhole fs → walk (joined fs) ≡ record { frames = readExact fs; rest = []; ended = tooShort 0 }
 
 -- ---- 3. A reader and a cursor give the same answers and octets at the same places
 
@@ -51,12 +55,12 @@ ReaderWalks =
     (h e : Reader) (bs : List (List ℕ)) (gs : List Returned) → AllRoom bs → ByReader h bs gs e
     → AllTold (h .at .at) (walk (unread h) .frames) (walk (unread h) .ended) bs gs (e .at .at)
 
--- so a new reader reads whole frames back, and then answers 14, place 0
+-- so a new reader reads whole frames back, as exact, and then answers 14, place 0
 abbrev pub ReadsAllBack : Type 0
 ReadsAllBack =
     (line : RefT (List ℕ)) (h e : Reader) (fs : List Frame) (bs : List (List ℕ)) (gs : List Returned)
     → Starts line h → AllWhole fs → now line ≡ joined fs → AllRoom bs → ByReader h bs gs e
-    → AllTold 0 (map sealed fs) (tooShort 0) bs gs (e .at .at)
+    → AllTold 0 (readExact fs) (tooShort 0) bs gs (e .at .at)
 
 -- ---- 5. No second outcome
 

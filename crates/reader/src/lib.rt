@@ -19,6 +19,7 @@ fn step_at(line: &[u8], at: Cursor, octets: &mut [u8]) -> Moved
     match answer {
         Answer::Frame {
             kind: _,
+            exact: _,
             count: _,
             next,
         } => Moved { answer, at: next },

@@ -2,6 +2,7 @@
 use native.Mathlib.Omega.{arith}
 use borrow.Author.Needs.{needs}
 use Rattle.stream.proofs.Staying.{fill-ready, room-ready, room-is-made}
+use Rattle.listing.specs.Lines.{frameLineRoom}
 use Rattle.frames.proofs.one.Statement.{statement}
 use Rattle.frames.proofs.one.Tie as tie
 
@@ -19,8 +20,8 @@ take-requires c κs =
     let held = filled .before .before .before in
     let begun = held .before .before .before in
     let ready = fill-ready (begun .args .run .stream) (filled .fill .result) _ _ (begun .pre .0) (filled .fill .ensures) in
-    let fits = room-is-made (filled .fill .result) (roomed .room .result) 125 (begun .args .out .now) (omega (arith, begun .pre .1)) (roomed .room .ensures) in
-    (room-ready _ _ 125 (begun .args .out .now) ready (roomed .room .ensures), search needs, search (needs, begun .pre .1), fits)
+    let fits = room-is-made (filled .fill .result) (roomed .room .result) frameLineRoom (begun .args .out .now) (omega (arith, begun .pre .1)) (roomed .room .ensures) in
+    (room-ready _ _ frameLineRoom (begun .args .out .now) ready (roomed .room .ensures), search needs, search (needs, begun .pre .1), fits)
 
 same-length : tie.Need-same-length
 same-length c = search needs
@@ -36,8 +37,8 @@ end-requires c κs =
     let held = filled .before .before .before in
     let begun = held .before .before .before in
     let ready = fill-ready (begun .args .run .stream) (filled .fill .result) _ _ (begun .pre .0) (filled .fill .ensures) in
-    let fits = room-is-made (filled .fill .result) (roomed .room .result) 125 (begun .args .out .now) (omega (arith, begun .pre .1)) (roomed .room .ensures) in
-    (room-ready _ _ 125 (begun .args .out .now) ready (roomed .room .ensures), search (needs, begun .pre .1), fits)
+    let fits = room-is-made (filled .fill .result) (roomed .room .result) frameLineRoom (begun .args .out .now) (omega (arith, begun .pre .1)) (roomed .room .ensures) in
+    (room-ready _ _ frameLineRoom (begun .args .out .now) ready (roomed .room .ensures), search (needs, begun .pre .1), fits)
 
 same-length-2 : tie.Need-same-length-2
 same-length-2 c = search needs

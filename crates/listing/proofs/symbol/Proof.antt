@@ -36,11 +36,11 @@ read-frame-requires c κs = search needs
 enum-known-kind : tie.Need-enum-known-kind
 enum-known-kind c = search needs
 
-add-t23 : tie.Need-add-t23
-add-t23 c = search needs
-
 add-t24 : tie.Need-add-t24
 add-t24 c = search needs
+
+add-t25 : tie.Need-add-t25
+add-t25 c = search needs
 
 array-share-prefix-octets : tie.Need-array-share-prefix-octets
 array-share-prefix-octets c =
@@ -48,7 +48,7 @@ array-share-prefix-octets c =
     let read = told .before .before .before in
     let called = read .before .before in
     let begun = called .before .before .before in
-    frame-fits (begun .args .listing) (begun .args .window .now) (begun .args .out .now) (begun .args .at) (begun .pre .0) (begun .pre .1) (begun .pre .2) (begun .args .v) _ _ _ refl (read .read-frame .kept .1 .1 .0) (read .read-frame .ensures) _ _ _ (told .kind .given .1)
+    frame-fits (begun .args .listing) (begun .args .window .now) (begun .args .out .now) (begun .args .at) (begun .pre .0) (begun .pre .1) (begun .pre .2) (begun .args .v) _ _ _ refl (read .read-frame .kept .1 .1 .0) (read .read-frame .ensures) _ _ _ _ (told .kind .given .1)
 
 slice-aggregate-put-frame : tie.Need-slice-aggregate-put-frame
 slice-aggregate-put-frame c =
@@ -56,7 +56,7 @@ slice-aggregate-put-frame c =
     let read = told .before .before .before in
     let called = read .before .before in
     let begun = called .before .before .before in
-    sym (length-take-le _ _ (frame-fits (begun .args .listing) (begun .args .window .now) (begun .args .out .now) (begun .args .at) (begun .pre .0) (begun .pre .1) (begun .pre .2) (begun .args .v) _ _ _ refl (read .read-frame .kept .1 .1 .0) (read .read-frame .ensures) _ _ _ (told .kind .given .1)))
+    sym (length-take-le _ _ (frame-fits (begun .args .listing) (begun .args .window .now) (begun .args .out .now) (begun .args .at) (begun .pre .0) (begun .pre .1) (begun .pre .2) (begun .args .v) _ _ _ refl (read .read-frame .kept .1 .1 .0) (read .read-frame .ensures) _ _ _ _ (told .kind .given .1)))
 
 put-frame-requires : tie.Need-put-frame-requires
 put-frame-requires c κs =
@@ -64,13 +64,13 @@ put-frame-requires c κs =
     let read = told .before .before .before in
     let called = read .before .before in
     let begun = called .before .before .before in
-    (frame-few (begun .args .listing) (begun .args .window .now) (begun .args .out .now) (begun .args .at) (begun .pre .0) (begun .pre .1) (begun .pre .2) (begun .args .v) _ _ _ refl (read .read-frame .kept .1 .1 .0) (read .read-frame .ensures) _ _ _ (told .kind .given .1), room (begun .args .out .now) (begun .args .at) (begun .pre .2))
+    (frame-few (begun .args .listing) (begun .args .window .now) (begun .args .out .now) (begun .args .at) (begun .pre .0) (begun .pre .1) (begun .pre .2) (begun .args .v) _ _ _ refl (read .read-frame .kept .1 .1 .0) (read .read-frame .ensures) _ _ _ _ (told .kind .given .1), room (begun .args .out .now) (begun .args .at) (begun .pre .2))
 
 enum-told : tie.Need-enum-told
 enum-told c = search needs
 
-add-t32 : tie.Need-add-t32
-add-t32 c = search needs
+add-t33 : tie.Need-add-t33
+add-t33 c = search needs
 
 enum-known-p : tie.Need-enum-known-p
 enum-known-p c = search needs
@@ -125,7 +125,7 @@ returns c =
     let read = told .before .before .before in
     let called = read .before .before in
     let begun = called .before .before .before in
-    answers-frame (begun .args .listing) (begun .args .window .now) (begun .args .out .now) (begun .args .at) (begun .pre .0) (begun .pre .1) (begun .pre .2) (begun .args .v) _ _ _ refl (read .read-frame .kept .1 .1 .0) (read .read-frame .ensures) _ _ _ _ _ (told .kind .given .1) (c .before .before .put-frame .ensures)
+    answers-frame (begun .args .listing) (begun .args .window .now) (begun .args .out .now) (begun .args .at) (begun .pre .0) (begun .pre .1) (begun .pre .2) (begun .args .v) _ _ _ refl (read .read-frame .kept .1 .1 .0) (read .read-frame .ensures) _ _ _ _ _ _ (told .kind .given .1) (c .before .before .put-frame .ensures)
 
 same-length-3 : tie.Need-same-length-3
 same-length-3 c = search needs
@@ -190,13 +190,13 @@ symbol-spec =
     slice-aggregate-read-frame-2
     read-frame-requires
     enum-known-kind
-    add-t23
     add-t24
+    add-t25
     array-share-prefix-octets
     slice-aggregate-put-frame
     put-frame-requires
     enum-told
-    add-t32
+    add-t33
     enum-known-p
     add-put-no
     put-no-requires

@@ -26,7 +26,7 @@ same-length : tie.Need-same-length
 same-length c = search needs
 
 returns : tie.Need-returns
-returns c = step-on _ _ _ _ _ (search needs) _ _ _ (c .before .answer .given .1)
+returns c = step-on _ _ _ _ _ (search needs) _ _ _ _ (c .before .answer .given .1)
 
 same-length-2 : tie.Need-same-length-2
 same-length-2 c = search needs

@@ -28,14 +28,14 @@ slice-aggregate-copy c = search needs
 copy-requires : tie.Need-copy-requires
 copy-requires c κs = search needs
 
-add-t18 : tie.Need-add-t18
-add-t18 c = search needs
+add-t19 : tie.Need-add-t19
+add-t19 c = search needs
 
-mul-t19 : tie.Need-mul-t19
-mul-t19 c = search needs
+mul-t20 : tie.Need-mul-t20
+mul-t20 c = search needs
 
-add-t20 : tie.Need-add-t20
-add-t20 c = search needs
+add-t21 : tie.Need-add-t21
+add-t21 c = search needs
 
 same-length : tie.Need-same-length
 same-length c = search needs
@@ -46,19 +46,19 @@ returns c =
     let tested = copied .before .before .before in
     let got = tested .before .before .before .before in
     let start = got .before .before .before .before in
-    crc-agrees _ _ _ _ (length-pairs _ _ (start .pre .1)) (start .pre .3) (got .get-octets .ensures) _ (start .pre .0) _ (omega (arith, start .pre .3)) _ (tested .before .right .ensures) (tested .if1 .taken) _ (copied .copy .ensures)
+    crc-agrees _ _ _ _ (length-pairs _ _ (start .pre .1)) (start .pre .3) (got .get-octets .ensures) _ _ (start .pre .0) _ (omega (arith, start .pre .3)) _ (tested .before .right .ensures) (tested .if1 .taken) _ (copied .copy .ensures)
 
-mul-t22 : tie.Need-mul-t22
-mul-t22 c = search needs
+mul-t23 : tie.Need-mul-t23
+mul-t23 c = search needs
 
-add-t23 : tie.Need-add-t23
-add-t23 c = search needs
+add-t24 : tie.Need-add-t24
+add-t24 c = search needs
 
 returns-2 : tie.Need-returns-2
 returns-2 c =
     let got = c .before .before .before .before in
     let start = got .before .before .before .before in
-    crc-wrong _ _ _ _ (length-pairs _ _ (start .pre .1)) (start .pre .3) (got .get-octets .ensures) _ (start .pre .0) _ (omega (arith, start .pre .3)) _ (c .before .right .ensures) (c .if1 .left)
+    crc-wrong _ _ _ _ (length-pairs _ _ (start .pre .1)) (start .pre .3) (got .get-octets .ensures) _ _ (start .pre .0) _ (omega (arith, start .pre .3)) _ (c .before .right .ensures) (c .if1 .left)
 
 pub read-octets-spec : {M : Type 1} → statement M
 read-octets-spec =
@@ -71,11 +71,11 @@ read-octets-spec =
     right-requires
     slice-aggregate-copy
     copy-requires
-    add-t18
-    mul-t19
-    add-t20
+    add-t19
+    mul-t20
+    add-t21
     same-length
     returns
-    mul-t22
-    add-t23
+    mul-t23
+    add-t24
     returns-2)

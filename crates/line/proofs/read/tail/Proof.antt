@@ -23,7 +23,7 @@ enum-told-4 : tie.Need-enum-told-4
 enum-told-4 c = search needs
 
 returns : tie.Need-returns
-returns c = tail-on _ _ _ _ _ _ (c .before .before .answer .given .1) (c .rest .ensures)
+returns c = tail-on _ _ _ _ _ _ _ (c .before .before .answer .given .1) (c .rest .ensures)
 
 returns-2 : tie.Need-returns-2
 returns-2 c = all-small _ _ (c .enum-told .given .1)

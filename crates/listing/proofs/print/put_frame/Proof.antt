@@ -13,6 +13,9 @@ put-requires c κs = search needs
 put-decimal-requires-2 : tie.Need-put-decimal-requires-2
 put-decimal-requires-2 c κs = search needs
 
+put-mark-requires : tie.Need-put-mark-requires
+put-mark-requires c κs = search needs
+
 put-octets-requires : tie.Need-put-octets-requires
 put-octets-requires c κs = search needs
 
@@ -26,11 +29,12 @@ returns : tie.Need-returns
 returns c =
     let end = c .before .before in
     let octets = end .before .before .before .before in
-    let kind = octets .before .before .before .before in
+    let mark = octets .before .before .before .before in
+    let kind = mark .before .before .before .before in
     let space = kind .before .before .before .before in
     let place = space .before .before .before .before in
     let begun = place .before .before .before .before in
-    frame-line _ _ _ (begun .pre .0) (begun .pre .1) (place .put-decimal .ensures) (space .put .ensures) (kind .put-decimal2 .ensures) (octets .put-octets .ensures) (end .put2 .ensures)
+    frame-line _ _ _ _ (begun .pre .0) (begun .pre .1) (place .put-decimal .ensures) (space .put .ensures) (kind .put-decimal2 .ensures) (mark .put-mark .ensures) (octets .put-octets .ensures) (end .put2 .ensures)
 
 pub put-frame-spec : {M : Type 1} → statement M
 put-frame-spec =
@@ -39,6 +43,7 @@ put-frame-spec =
     put-decimal-requires
     put-requires
     put-decimal-requires-2
+    put-mark-requires
     put-octets-requires
     put-requires-2
     same-length
