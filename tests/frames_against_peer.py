@@ -4,7 +4,7 @@
     tests/frames_against_peer.py BENCH FRAMES PEER [SEED]
 
 What a long run of the bench sends, through the shell line of README.md, against the frames that the peer's device says it sent;
-3,000 records of frames, most of them damaged; 1,000 in whose sets one or two symbols are wrong; every four of seven symbols in
+3,000 records of frames, most of them damaged; 1,000 in whose sets up to two symbols are replaced; every four of seven symbols in
 the place of a set; the edges by name, and the record that README.md shows; each of the 256 octets in a nibble's place; 30 MB of
 frames in little memory; input that comes slowly, in pieces or not at all, and output that is closed or full. A record on which the
 two differ is kept under target/tests/.

@@ -160,7 +160,7 @@ def record(seed):
 
 
 def spoilt_sets(seed):
-    """The symbols of up to eight whole frames, in whose sets one or two symbols are changed, mostly one."""
+    """The symbols of up to eight whole frames, in whose sets up to two symbols are replaced by chance, mostly one."""
     rng = random.Random(seed)
     symbols = []
     for _ in range(rng.randrange(1, 9)):
@@ -171,7 +171,7 @@ def spoilt_sets(seed):
 
 
 def kinds_near(four):
-    """The kinds whose sets have all but one of the four symbols."""
+    """The kinds whose sets agree with the four symbols in three places."""
     return [kind for kind, code in enumerate(SETS) if sum(one == other for one, other in zip(code, four)) == 3]
 
 

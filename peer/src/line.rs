@@ -603,6 +603,30 @@ mod tests {
     }
 
     #[test]
+    fn two_misread_symbols_are_seldom_another_kind() {
+        let (mut exact, mut near, mut refused) = (0, 0, 0);
+        for &set in SETS {
+            for (one, other) in [(0, 1), (0, 2), (0, 3), (1, 2), (1, 3), (2, 3)] {
+                for (first, second) in
+                    (0..32).flat_map(|first| (0..32).map(move |second| (first, second)))
+                {
+                    if first == set[one] || second == set[other] {
+                        continue;
+                    }
+                    let mut misread = set;
+                    (misread[one], misread[other]) = (first, second);
+                    match taken_as(misread) {
+                        Some((_, Fit::Exact)) => exact += 1,
+                        Some((_, Fit::ThreeOfFour)) => near += 1,
+                        None => refused += 1,
+                    }
+                }
+            }
+        }
+        assert_eq!((exact, near, refused), (16, 942, 33_638));
+    }
+
+    #[test]
     fn symbols_above_31_may_be_the_wrong_one_of_a_set() {
         for (symbols, number) in [
             ([0x38, 0x18, 0x18, 0x11], Some(0)),

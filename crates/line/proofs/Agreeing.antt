@@ -20,7 +20,7 @@ use Rattle.line.specs.Theorems.{OneTaken}
 
 -- ---- in how many places a set and a record agree
 
-pub agree-most : (s l : List ℕ) → agree s l ≤ length s
+agree-most : (s l : List ℕ) → agree s l ≤ length s
 unfolding agree
 agree-most [] l = omega arith
 agree-most (x ∷ xs) [] = omega arith
@@ -138,7 +138,7 @@ less-one (x ∷ xs) (y ∷ ys) h r = go (r .wrong) (r .within) (r .differs) (r .
 
 -- of a record of four symbols or more and a kind's set
 module _ (l : List ℕ) (long : 4 ≤ length l) (k : ℕ) (h : k < kinds) where
-  pub is-three : agree (setOf k) l ≡ 3 → InThree l k
+  is-three : agree (setOf k) l ≡ 3 → InThree l k
   is-three e =
       let n = set-length k h in
       let r = one-less (setOf k) l (omega arith) (omega arith) in
@@ -153,7 +153,7 @@ module _ (l : List ℕ) (long : 4 ≤ length l) (k : ℕ) (h : k < kinds) where
 
 -- ---- the kinds that agree in three places
 
-abbrev pub In : ℕ → List ℕ → Type 0
+abbrev In : ℕ → List ℕ → Type 0
 In j [] = ⊥
 In j (k ∷ ks) = (j ≡ k) ⊎ In j ks
 

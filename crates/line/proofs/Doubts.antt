@@ -50,7 +50,7 @@ exact-far l j k e t =
       | no q ↦ let two = apart k j (t .kind) (e .kind) q in omega arith
     ]
 
--- ---- one changed symbol
+-- ---- 5. One changed symbol
 
 module _ (k i v : ℕ) (x : List ℕ) (h : k < kinds) (place : i < 4) (changed : v ≡ getD (setOf k) i 0 → ⊥) where
   abbrev line : List ℕ
@@ -82,7 +82,7 @@ module _ (k i v : ℕ) (x : List ℕ) (h : k < kinds) (place : i < 4) (changed :
 pub one-changed : OneChanged
 one-changed = changed-once
 
--- ---- several kinds: refused
+-- ---- 5. Several kinds: refused
 
 doubtful-untaken : (l : List ℕ) → Doubtful l → Untaken l
 doubtful-untaken l d = record { four = d .four; none = each }
@@ -94,7 +94,7 @@ doubtful-untaken l d = record { four = d .four; none = each }
 pub doubtful-refused : DoubtfulRefused
 doubtful-refused l d = let u = doubtful-untaken l d in (u, no-frame-exactly l 0 .1 (inl (u, refl)))
 
--- ---- several kinds: those of the list are
+-- ---- 5. Several kinds: those of the list are such
 
 every : (List ℕ → Bool) → List (List ℕ) → Bool
 every g [] = true
@@ -116,7 +116,7 @@ among-doubtful l long m =
     let several : 2 ≤ length (agreeing 0 orderedSets (take 4 l)) = leb→le 2 (length (agreeing 0 orderedSets (take 4 l))) t in
     counted-doubtful l long (subst (λ (ks : List ℕ). 2 ≤ length ks) (sym (agreeing-front l long)) several)
 
--- ---- several kinds: no others
+-- ---- 5. Several kinds: no others are
 
 some : (List ℕ → Bool) → List (List ℕ) → Bool
 some g [] = false

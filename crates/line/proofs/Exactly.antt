@@ -22,7 +22,7 @@ use Rattle.line.specs.Read.{Look, found, short, misfit, TakenSet, setAt,
 use Rattle.line.specs.Crc.{crcRight}
 use Rattle.line.specs.Place.{Begins, Cut, Longest, Intact, Spoilt}
 use Rattle.line.specs.Taken.{Exactly, TakenAs, Untaken, straight, AsIfExact, marked}
-use Rattle.line.specs.Theorems.{ReadsBack, ReadsAsExact, ExactStays, ExactFrameExactly, FrameExactly, WrongCrcExactly, TooShortExactly, Behind, NoFrameExactly}
+use Rattle.line.specs.Theorems.{ReadsBack, ReadsAsExact, ExactStays, ExactFrameExactly, FrameExactly, WrongCrcExactly, TooShortExactly, Unframed, NoFrameExactly}
 
 -- ---- frames and their shapes
 
@@ -223,7 +223,7 @@ module _ (line : List ℕ) where
             let h = m .0 in
             absurd (omega (arith, m .1 .most (length line) (omega arith) begins))
 
-    nothing-answer : (p : ℕ) → Behind p line → first line ≡ noFrame p
+    nothing-answer : (p : ℕ) → Unframed p line → first line ≡ noFrame p
     unfolding Meaning
     nothing-answer p b = go (first line) (means line k exact)
       where
@@ -238,7 +238,7 @@ module _ (line : List ℕ) where
             ap noFrame e
 
     -- where the answer is noFrame, what the other answers mean is not so
-    nothing-means : (p : ℕ) → first line ≡ noFrame p → Behind p line
+    nothing-means : (p : ℕ) → first line ≡ noFrame p → Unframed p line
     unfolding Meaning
     nothing-means p e =
         record {
@@ -271,7 +271,7 @@ module _ (line : List ℕ) (k : ℕ) (exact : Bool) (t : TakenAs line k exact) w
   kind-of : k < kinds
   kind-of = taken-kind line k exact t
 
-  pub straight-exact : Exactly (straight k line) k
+  straight-exact : Exactly (straight k line) k
   unfolding straight
   straight-exact = set-there k (drop 4 line) kind-of
 
@@ -418,15 +418,15 @@ module _ (line : List ℕ) where
       ∙ ap (marked (a .exact)) (cut-answer (straight (a .kind) line) (a .kind) (straight-exact line (a .kind) (a .exact) (a .taken)) (a .holds))
       ∙ ap tooShort (straight-long line (a .kind) (a .exact) (a .taken) ∙ sym e)
 
-  none-means : (p : ℕ) → first line ≡ noFrame p → (Untaken line × (p ≡ 0)) ⊎ AsIfExact (Behind p) line
+  none-means : (p : ℕ) → first line ≡ noFrame p → (Untaken line × (p ≡ 0)) ⊎ AsIfExact (Unframed p) line
   none-means p e = go (by-set line)
     where
-      go : BySet line (first line) → (Untaken line × (p ≡ 0)) ⊎ AsIfExact (Behind p) line
+      go : BySet line (first line) → (Untaken line × (p ≡ 0)) ⊎ AsIfExact (Unframed p) line
       go (few h q) = let z : _≡_ {A = ℕ} 0 1 = cc in absurd (omega arith)
       go (unset u q) = let same : p ≡ 0 = cc in inl (u, same)
-      go (set t q) = inr (as-if line t (Behind p) (nothing-means (straight (t .kind) line) (t .kind) (set-there-right line t) p (marked-none (t .exact) _ p (sym q ∙ e))))
+      go (set t q) = inr (as-if line t (Unframed p) (nothing-means (straight (t .kind) line) (t .kind) (set-there-right line t) p (marked-none (t .exact) _ p (sym q ∙ e))))
 
-  none-answer : (p : ℕ) → (Untaken line × (p ≡ 0)) ⊎ AsIfExact (Behind p) line → first line ≡ noFrame p
+  none-answer : (p : ℕ) → (Untaken line × (p ≡ 0)) ⊎ AsIfExact (Unframed p) line → first line ≡ noFrame p
   unfolding first afterSet marked
   none-answer p (inl u) = ap (λ (r : Look TakenSet). afterSet r line) (untaken-set line (u .0)) ∙ ap noFrame (sym (u .1))
   none-answer p (inr a) =

@@ -37,7 +37,7 @@ answer-back (NoFrame p) = refl
 answer-back (TooShort p) = refl
 answer-back (WrongCrc p) = refl
 
--- ---- 5. One meaning, one outcome
+-- ---- 6. One meaning, one outcome
 
 pub one-meaning-written : OneMeaningWritten
 one-meaning-written r s e = sym (written-back r) ∙ ap writtenOf e ∙ written-back s

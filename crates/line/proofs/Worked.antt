@@ -31,6 +31,7 @@ examples =
       two-changed = refl;
       reset = refl;
       near-reset = refl;
+      near-sop = refl;
       eop-after-half = refl;
       eop-too-soon = refl;
       octet-35 = refl;

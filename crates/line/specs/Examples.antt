@@ -13,7 +13,7 @@ use Rattle.line.specs.Crc.{crcOf}
 use Rattle.line.specs.Frame.{Frame, symbolsOf}
 use Rattle.line.specs.Refusal.{firstNo}
 use Rattle.line.specs.Write.{writerRows}
-use Rattle.line.specs.Read.{agreeing, first}
+use Rattle.line.specs.Read.{found, agreeing, setAt, first}
 use Rattle.line.specs.Reader.{Said, wasRead, saidNo, noAt, said, saysOf, Reads}
 
 -- what the reader says of a record, given room
@@ -43,9 +43,10 @@ pub record Examples : Type 0 where
   pub no-set : readingOf (0x18 ∷ 0x18 ∷ 0x07 ∷ 0x07 ∷ []) ≡ noAt 13 0
   pub several : agreeing 0 orderedSets (0x18 ∷ 0x18 ∷ 0x06 ∷ 0x11 ∷ []) ≡ 0 ∷ 1 ∷ 4 ∷ []
   pub doubtful : readingOf (0x18 ∷ 0x18 ∷ 0x06 ∷ 0x11 ∷ []) ≡ noAt 13 0
-  pub two-changed : agreeing 0 orderedSets (0x18 ∷ 0x06 ∷ 0x06 ∷ 0x11 ∷ []) ≡ 4 ∷ []
+  pub two-changed : setAt (0x18 ∷ 0x06 ∷ 0x06 ∷ 0x11 ∷ []) ≡ found (record { kind = 4; exact = false })
   pub reset : readingOf (0x07 ∷ 0x07 ∷ 0x07 ∷ 0x19 ∷ []) ≡ wasRead 5 true 0 4
   pub near-reset : readingOf (0x07 ∷ 0xA1 ∷ 0x07 ∷ 0x19 ∷ []) ≡ wasRead 5 false 0 4
+  pub near-sop : readingOf (0x18 ∷ 0x18 ∷ 0x18 ∷ 0x0D ∷ replicate 68 0x1E) ≡ noAt 14 72
   pub eop-after-half : readingOf (started 13 ++ (eop ∷ [])) ≡ noAt 13 17
   pub eop-too-soon : readingOf (started 10 ++ (eop ∷ [])) ≡ noAt 13 14
   pub octet-35 : readingOf (started 69) ≡ noAt 13 72

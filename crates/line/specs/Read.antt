@@ -1,4 +1,4 @@
--- What a record begins with: a frame, a part of one, or neither (01, 'Line reader'; 02, A4).
+-- What a record begins with: a frame, too few symbols for one, or no frame (01, 'Line reader'; 02, A4).
 -- Assumes nothing.
 use mathlib.Core.Bool.{Bool, true, false, cond, _&&_}
 use mathlib.Core.List.{List, [], _∷_}
@@ -11,7 +11,7 @@ use Rattle.line.specs.Kind.{orderedSets, kindFrom, carries}
 use Rattle.line.specs.Crc.{crcRight}
 use Rattle.line.specs.Frame.{Shape}
 
--- what is looked for is there; or so many symbols fit and the record ends; or so many fit and the next does not
+-- what is looked for is there; or so many symbols fit and the record ends; or so many fit and the next does not (of a set: fewer than four; or 0)
 pub data Look (A : Type 0) : Type 0 where
   found : A → Look A
   short : ℕ → Look A

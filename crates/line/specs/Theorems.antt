@@ -73,15 +73,15 @@ abbrev pub TooShortExactly : Type 0
 TooShortExactly =
     (line : List ℕ) (p : ℕ) → (first line ≡ tooShort p) ↔ (((length line < 4) ⊎ AsIfExact Cut line) × (p ≡ length line))
 
--- behind a set: neither a whole frame nor a part of one, and p is as far as it begins one
-pub record Behind (p : ℕ) (l : List ℕ) : Type 0 where
+-- no whole frame, none with a wrong CRC, no part of one; p is as far as it begins one
+pub record Unframed (p : ℕ) (l : List ℕ) : Type 0 where
   pub unintact : (s : Shape) → Intact l s → ⊥
   pub unspoilt : (q : ℕ) → Spoilt l q → ⊥
   pub uncut : Cut l → ⊥
   pub longest : Longest l p
 
 abbrev pub NoFrameExactly : Type 0
-NoFrameExactly = (line : List ℕ) (p : ℕ) → (first line ≡ noFrame p) ↔ ((Untaken line × (p ≡ 0)) ⊎ AsIfExact (Behind p) line)
+NoFrameExactly = (line : List ℕ) (p : ℕ) → (first line ≡ noFrame p) ↔ ((Untaken line × (p ≡ 0)) ⊎ AsIfExact (Unframed p) line)
 
 -- ---- 3. No frame is a proper beginning of another
 

@@ -1,4 +1,4 @@
--- How many symbols have been read where a record ends inside a frame or has a wrong CRC.
+-- How many symbols have been read where these are too few for a frame, or its CRC is wrong.
 -- Assumes nothing.
 use mathlib.Core.Path.{_≡_, ap}
 use mathlib.Core.List.{List, append-nil}

@@ -15,7 +15,7 @@ unfoldable pub framesText : ℕ → List ReadFrame → List ℕ
 framesText p [] = []
 framesText p (r ∷ rs) = frameText p r ++ framesText (p + length (drawn (r .shape))) rs
 
--- the record is at its end with n symbols that no frame has: nothing behind a whole frame, 14 inside one; or its form breaks at the next
+-- the record is at its end with n symbols that no frame has: nothing behind a whole frame, else 14; or its form breaks at the next
 unfoldable pub shortText : Bool → ℕ → ℕ → List ℕ
 shortText true p zero = []
 shortText true p (suc n) = noText 14 (p + suc n)

@@ -64,7 +64,7 @@ fn stop(listing: Listing, at: usize) -> Fed
     }
 }
 
-// A symbol: with those before it a frame, a part of one, or neither.
+// A symbol: with those before it a frame, too few for one, or no frame.
 fn symbol(listing: Listing, v: u8, window: &mut [u8], out: &mut [u8], at: usize) -> Fed
     requires { ⌜ Bounded listing × (length (now window) ≡ 73) × (hasRoom frameLineRoom (now out) at ≡ true) ⌝ }
     ensures { λ r. ⌜ Goes listing (Symbol v) (now (window .entry)) (now (out .entry)) at r (now (window .exit)) (now (out .exit)) ⌝ }

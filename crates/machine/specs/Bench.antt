@@ -113,7 +113,7 @@ cases =
     ∷ device (unanswered toPlug ++ (w 0x07 0x01 ∷ t 1 ∷ p 1 answer ∷ [])) (w 0x43 0x12) done [] (0x12 ∷ []) 7
     ∷ device (unanswered toPlug ++ (t 1 ∷ p 1 answer ∷ [])) (w 0x43 0x12) (no 6) [] [] 0
     ∷ reader [] (noAt 14 0)
-    ∷ reader (0x18 ∷ 0x18 ∷ 0x11 ∷ []) (noAt 14 3)
+    ∷ reader (0x18 ∷ 0x18 ∷ 0x11 ∷ []) (noAt 14 3)  -- by 02, A4
     ∷ []
 
 -- all of them hold

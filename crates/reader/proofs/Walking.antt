@@ -13,8 +13,8 @@ use Rattle.line.specs.Taken.{Exactly, TakenAs}
 use Rattle.line.proofs.Shapes.{drawn-some}
 use Rattle.line.proofs.Exactly.{sealed-shaped, reads-back, exact-stays, straight-long, frame-exactly}
 use Rattle.line.proofs.Tails.{frame-lies}
-use Rattle.reader.specs.Walk.{Walked, ends, before, onward, walkFor, walk, drawnAll, AllExact, Lies}
-use Rattle.reader.specs.Theorems.{NoMore, WalkGoesOn, WalkEnds, WalkLies, WalkKeeps, WalksFrames}
+use Rattle.reader.specs.Walk.{Walked, ends, before, onward, walkFor, walk, drawnAll, AllExact, Covers}
+use Rattle.reader.specs.Theorems.{NoMore, WalkGoesOn, WalkEnds, WalkCovers, WalkKeeps, WalksFrames}
 
 -- ---- a frame that was read stands in the record
 
@@ -94,16 +94,16 @@ walk-ends line =
     (λ l f e no. (no, sym e))
     (length line) line (omega arith)
 
-pub walk-lies : WalkLies
+pub walk-covers : WalkCovers
 unfolding walk ends before
-walk-lies line =
-    walked (λ l w. Lies (w .frames) (w .rest) l)
+walk-covers line =
+    walked (λ l w. Covers (w .frames) (w .rest) l)
     (λ l r w e p. (frame-exactly l (r .shape) (r .exact) .0 e .0, frame-lies l r e, p))
     (λ l f e no. refl)
     (length line) line (omega arith)
 
 -- with exact sets the record is not another
-exact-all : (rs : List ReadFrame) (rest line : List ℕ) → Lies rs rest line → AllExact rs → drawnAll rs ++ rest ≡ line
+exact-all : (rs : List ReadFrame) (rest line : List ℕ) → Covers rs rest line → AllExact rs → drawnAll rs ++ rest ≡ line
 unfolding drawnAll
 exact-all [] rest line h x = sym h
 exact-all (r ∷ rs) rest line h x =
@@ -115,7 +115,7 @@ exact-all (r ∷ rs) rest line h x =
     ∙ exact-stays line k set
 
 pub walk-keeps : WalkKeeps
-walk-keeps line x = exact-all (walk line .frames) (walk line .rest) line (walk-lies line) x
+walk-keeps line x = exact-all (walk line .frames) (walk line .rest) line (walk-covers line) x
 
 -- ---- whole frames
 

@@ -12,7 +12,7 @@ use Rattle.line.specs.Theorems.{SameSlice}
 use Rattle.reader.specs.declared.Moved.{Moved}
 use Rattle.reader.specs.declared.Reader.{Reader}
 use Rattle.reader.specs.Step.{Steps, Starts, Nexts, IsPlace, unread, IsUnread}
-use Rattle.reader.specs.Walk.{onward, walk, drawnAll, readExact, AllExact, Lies}
+use Rattle.reader.specs.Walk.{onward, walk, drawnAll, readExact, AllExact, Covers}
 use Rattle.reader.specs.Calls.{Returned, ByCursor, ByReader, AllRoom, AllTold}
 
 -- ---- 1. The walk over any record: on behind each frame, to the first place where there is none
@@ -29,8 +29,8 @@ abbrev pub WalkEnds : Type 0
 WalkEnds = (line : List ℕ) → NoMore (walk line .ended) × (walk line .ended ≡ first (walk line .rest))
 
 -- what is read and what is left is the record, in the frames' order
-abbrev pub WalkLies : Type 0
-WalkLies = (line : List ℕ) → Lies (walk line .frames) (walk line .rest) line
+abbrev pub WalkCovers : Type 0
+WalkCovers = (line : List ℕ) → Covers (walk line .frames) (walk line .rest) line
 
 -- to the symbol, where all sets are exact
 abbrev pub WalkKeeps : Type 0

@@ -52,9 +52,9 @@ AllExact [] = Unit {0}
 AllExact (r ∷ rs) = (r .exact ≡ true) × AllExact rs
 
 -- the record is these frames and then the rest: of each the set is taken, and with that set its symbols stand there
-abbrev pub Lies : List ReadFrame → List ℕ → List ℕ → Type 0
-Lies [] rest line = line ≡ rest
-Lies (r ∷ rs) rest line =
+abbrev pub Covers : List ReadFrame → List ℕ → List ℕ → Type 0
+Covers [] rest line = line ≡ rest
+Covers (r ∷ rs) rest line =
     TakenAs line (r .shape .kind) (r .exact)
     × (drawn (r .shape) ++ drop (length (drawn (r .shape))) line ≡ straight (r .shape .kind) line)
-    × Lies rs rest (drop (length (drawn (r .shape))) line)
+    × Covers rs rest (drop (length (drawn (r .shape))) line)
