@@ -13,6 +13,7 @@ import sys
 
 WORD = re.compile(r"[A-Za-z_◌][A-Za-z0-9_'′◌-]*")
 HEAD = re.compile(r"^(?:mutual )?((?:(?:pub|unfoldable|abbrev|ruleset|data|record) )*)([A-Za-z][A-Za-z0-9_'′-]*)(?=[ ,:])")
+NESTED = re.compile(r"^ +(?:(?:pub|unfoldable|abbrev) )+([A-Za-z][A-Za-z0-9_'′-]*) :(?!:)")
 MEMBER = re.compile(r"^  +(?:pub )?([a-z][A-Za-z0-9_'′-]*(?: [a-z][A-Za-z0-9_'′-]*)*) :(?!:)")
 
 
@@ -33,6 +34,10 @@ APART = {
     "kind-of": "kind_of_lem",
     "hard-reset": "hard_reset_sent",
     "withOther": "set_with",
+    "crc-right": "crc_right_lem",
+    "port-start": "port_start_lem",
+    "write-taken": "write_taken_lem",
+    "Given-on": "GivenOn",
 }
 
 
@@ -77,6 +82,9 @@ def owned():
             named = re.match(r"^(?:pub )?(?:data|record) ([A-Za-z][A-Za-z0-9_'′-]*)", line)
             if named:
                 words.add(named.group(1))
+            nested = NESTED.match(line)
+            if nested:
+                words.add(nested.group(1))
             if within:
                 member = MEMBER.match(line)
                 if member:

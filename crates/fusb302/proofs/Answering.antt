@@ -19,7 +19,7 @@ use Rattle.machine.specs.Requests.{hard_reset_heard}
 use Rattle.machine.specs.Events.{read, hard_reset, value}
 use Rattle.machine.specs.Step.{accepted, reply_to, read_value, after_read}
 use Rattle.machine.proofs.Keeping.{power_up_good}
-use Rattle.machine.proofs.Checking.{read-checks, reset-checks}
+use Rattle.machine.proofs.Checking.{read_checks, reset_checks}
 use Rattle.fusb302.specs.declared.bits.Place.{Place}
 use Rattle.fusb302.specs.declared.bits.Place.TheVariants.{Id, Stored, Shown, Port, Nowhere}
 use Rattle.fusb302.specs.declared.queue.Queue.{Queue}
@@ -33,20 +33,20 @@ use Rattle.fusb302.specs.Queued.{queued}
 use Rattle.fusb302.specs.Held.{held, Sound}
 use Rattle.fusb302.specs.View.{status_of, ints_of, view, Arranged, Asks, PoweredUp}
 use Rattle.fusb302.specs.Serves.{Serves, PortRead}
-use Rattle.fusb302.proofs.Serving.{serves-no, serves-yes}
+use Rattle.fusb302.proofs.Serving.{serves_no, serves_yes}
 use Rattle.fusb302.proofs.Showing.{held_length}
 
 -- ---- reads
 
 module _ (d : Device) (asks : Asks d) (before : List ℕ) (a : ℕ) where
   pub read_small : length before < frame_room → Serves (read (length before) a) d before (record { device = d; reply = No 12; count = 0 }) before
-  read_small h = serves-no (read (length before) a) d before asks 12 (read-checks (view d) (length before) a ∙ simp (lt-ltb (length before) frame_room h))
+  read_small h = serves_no (read (length before) a) d before asks 12 (read_checks (view d) (length before) a ∙ simp (lt-ltb (length before) frame_room h))
 
   module _ (room : frame_room ≤ length before) where
-    pub read-nowhere : exists a ≡ false → Serves (read (length before) a) d before (record { device = d; reply = No 1; count = 0 }) before
-    read-nowhere h =
-        serves-no (read (length before) a) d before asks 1
-        (read-checks (view d) (length before) a ∙ simp (le-ltb (length before) frame_room room, h))
+    pub read_nowhere : exists a ≡ false → Serves (read (length before) a) d before (record { device = d; reply = No 1; count = 0 }) before
+    read_nowhere h =
+        serves_no (read (length before) a) d before asks 1
+        (read_checks (view d) (length before) a ∙ simp (le-ltb (length before) frame_room room, h))
 
     -- a read that is taken gives an octet, sends nothing, and leaves a device
     read-gives : exists a ≡ true → (eqb a fifos && eqb (length (view d).rx) 0) ≡ false → a < 256 → (v : ℕ) (t : Device) → Arranged t
@@ -54,8 +54,8 @@ module _ (d : Device) (asks : Asks d) (before : List ℕ) (a : ℕ) where
         → Serves (read (length before) a) d before (record { device = t; reply = Value v; count = 0 }) before
     unfolding accepted reply_to joined
     read-gives h k small v t arranged p q =
-        serves-yes (read (length before) a) d before asks
-        (read-checks (view d) (length before) a ∙ simp (le-ltb (length before) frame_room room, h, k)) small
+        serves_yes (read (length before) a) d before asks
+        (read_checks (view d) (length before) a ∙ simp (le-ltb (length before) frame_room room, h, k)) small
         (record { device = t; reply = Value v; count = 0 }) before arranged p (ap value q) refl refl
 
     -- reads of other addresses than the port
@@ -145,24 +145,24 @@ module _ (d : Device) (asks : Asks d) where
   sound : Sound d.rx
   sound = asks.arranged.rx
 
-  pub port-empty : d.rx.len ≡ 0 → PortRead d (record { device = d; reply = No 8; count = 0 })
+  pub port_empty : d.rx.len ≡ 0 → PortRead d (record { device = d; reply = No 8; count = 0 })
   unfolding exists is_stored read_only
-  port-empty h =
+  port_empty h =
       record {
         serves = λ before room.
-            serves-no (read (length before) fifos) d before asks 8
-            (read-checks (view d) (length before) fifos
+            serves_no (read (length before) fifos) d before asks 8
+            (read_checks (view d) (length before) fifos
             ∙ simp (le-ltb (length before) frame_room room, eq-eqb (length (held d.rx)) 0 (held_length d.rx sound ∙ h)));
       }
 
-  pub port-read : (d.rx.len ≡ 0 → ⊥) → (v : ℕ) (rx : Fifo) → v ≡ get_or (held d.rx) 0 0 → Sound rx → held rx ≡ drop 1 (held d.rx)
+  pub port_read : (d.rx.len ≡ 0 → ⊥) → (v : ℕ) (rx : Fifo) → v ≡ get_or (held d.rx) 0 0 → Sound rx → held rx ≡ drop 1 (held d.rx)
       → PortRead d (record {
         device = record { cells = d.cells; tx = d.tx; rx = rx; status = d.status; ints = d.ints; request = d.request; pins = d.pins };
         reply = Value v;
         count = 0;
       })
   unfolding exists is_stored read_only after_read read_value
-  port-read h v rx p q r =
+  port_read h v rx p q r =
       record {
         serves = λ before room.
             read-gives d asks before fifos room refl
@@ -173,16 +173,16 @@ module _ (d : Device) (asks : Asks d) where
 -- ---- a Hard Reset heard
 
 module _ (d : Device) (asks : Asks d) (before : List ℕ) where
-  pub reset-small : length before < frame_room → Serves (hard_reset (length before)) d before (record { device = d; reply = No 12; count = 0 }) before
-  reset-small h =
-      serves-no (hard_reset (length before)) d before asks 12 (reset-checks (view d) (length before) ∙ simp (lt-ltb (length before) frame_room h))
+  pub reset_small : length before < frame_room → Serves (hard_reset (length before)) d before (record { device = d; reply = No 12; count = 0 }) before
+  reset_small h =
+      serves_no (hard_reset (length before)) d before asks 12 (reset_checks (view d) (length before) ∙ simp (lt-ltb (length before) frame_room h))
 
-  pub reset-heard : frame_room ≤ length before → (t : Device) → Arranged t → view t ≡ hard_reset_heard (view d)
+  pub reset_heard : frame_room ≤ length before → (t : Device) → Arranged t → view t ≡ hard_reset_heard (view d)
       → Serves (hard_reset (length before)) d before (record { device = t; reply = Done; count = 0 }) before
   unfolding accepted reply_to joined
-  reset-heard room t arranged p =
-      serves-yes (hard_reset (length before)) d before asks
-      (reset-checks (view d) (length before) ∙ simp (le-ltb (length before) frame_room room)) tt
+  reset_heard room t arranged p =
+      serves_yes (hard_reset (length before)) d before asks
+      (reset_checks (view d) (length before) ∙ simp (le-ltb (length before) frame_room room)) tt
       (record { device = t; reply = Done; count = 0 }) before arranged p refl refl refl
 
 -- ---- reads of an address
@@ -192,24 +192,24 @@ module _ (d : Device) (asks : Asks d) (before : List ℕ) (room : frame_room ≤
   unfolding cleared_at
   nothing-cleared p q r = rw (p, q, r) refl
 
-  pub read-id : a ≡ device_id → Serves (read (length before) a) d before (record { device = d; reply = Value 0x91; count = 0 }) before
-  read-id e =
+  pub read_id : a ≡ device_id → Serves (read (length before) a) d before (record { device = d; reply = Value 0x91; count = 0 }) before
+  read_id e =
       let w = at_id a e in
       read_of d asks before a room w.1 w.0 small 0x91 d.ints
       (nothing-cleared (rw e refl) (rw e refl) (rw e refl)) (rw e refl)
 
-  pub read-stored : (2 ≤ a) × (a ≤ 0x10)
+  pub read_stored : (2 ≤ a) × (a ≤ 0x10)
       → Serves (read (length before) a) d before (record { device = d; reply = Value (get_or d.cells (a - 2) 0); count = 0 }) before
-  read-stored h =
+  read_stored h =
       let w = at_stored a h.0 h.1 in
       read_of d asks before a room w.1 w.0 small (get_or d.cells (a - 2) 0) d.ints
       (nothing-cleared (ne_eqb a interrupta (λ e. omega arith)) (ne_eqb a interruptb (λ e. omega arith)) (ne_eqb a interrupt (λ e. omega arith)))
       (rw (w.3, w.2) refl)
 
-  pub read-shown : (0x3C ≤ a) × (a ≤ 0x42) → (v : ℕ) (i : Ints) → v ≡ get_or (shown (view d)) (a - status0a) 0
+  pub read_shown : (0x3C ≤ a) × (a ≤ 0x42) → (v : ℕ) (i : Ints) → v ≡ get_or (shown (view d)) (a - status0a) 0
       → ints_of i ≡ cleared_at a (ints_of d.ints)
       → Serves (read (length before) a) d before
       (record { device = record { cells = d.cells; tx = d.tx; rx = d.rx; status = d.status; ints = i; request = d.request; pins = d.pins }; reply = Value v; count = 0 }) before
-  read-shown h v i p q =
+  read_shown h v i p q =
       let w = at_shown a h.0 h.1 in
       read_of d asks before a room w.1 w.0 small v i q (rw (w.3, w.2) p)

@@ -39,9 +39,9 @@ module _ (s : State) (t : Device) (is : Becomes s t) where
       pub sending : (f : Frame) → Sends (f ∷ []) before n after → Does (sends f s) before (done t n) after
       sending f h = record { state = is.state; arranged = is.arranged; reply = refl; sends = h }
 
-      pub if-sending : (o : Option Frame) → Sends (if_any o) before n after → Does (sends_if o s) before (done t n) after
-      if-sending none h = record { state = is.state; arranged = is.arranged; reply = refl; sends = h }
-      if-sending (some f) h = sending f h
+      pub if_sending : (o : Option Frame) → Sends (if_any o) before n after → Does (sends_if o s) before (done t n) after
+      if_sending none h = record { state = is.state; arranged = is.arranged; reply = refl; sends = h }
+      if_sending (some f) h = sending f h
 
 -- ---- a request is over
 

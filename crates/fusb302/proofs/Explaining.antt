@@ -24,27 +24,27 @@ use Rattle.fusb302.proofs.Hearing.{has_room, no_room}
 -- ---- each test, as the code makes it
 
 module _ (d : Device) where
-  pub is-off : (k : ℕ) (a b : Bool) → a ≡ cond (eqb k 0) true (has (enables k) (get_or d.cells 5 0)) → not a ≡ b → not (kind_on k (view d)) ≡ b
+  pub is_off : (k : ℕ) (a b : Bool) → a ≡ cond (eqb k 0) true (has (enables k) (get_or d.cells 5 0)) → not a ≡ b → not (kind_on k (view d)) ≡ b
   unfolding kind_on registers.cell
-  is-off k a b e f = ap not (sym e) ∙ f
+  is_off k a b e f = ap not (sym e) ∙ f
 
-  pub is-full : (m : List ℕ) → Arranged d → 80 < d.rx.len + 1 + length m → not (fits_rx m (view d)) ≡ true
-  is-full m h lt = ap not (no_room d h m lt)
+  pub is_full : (m : List ℕ) → Arranged d → 80 < d.rx.len + 1 + length m → not (fits_rx m (view d)) ≡ true
+  is_full m h lt = ap not (no_room d h m lt)
 
-  pub is-room : (m : List ℕ) → Arranged d → d.rx.len + 1 + length m ≤ 80 → not (fits_rx m (view d)) ≡ false
-  is-room m h le = ap not (has_room d h m le)
+  pub is_room : (m : List ℕ) → Arranged d → d.rx.len + 1 + length m ≤ 80 → not (fits_rx m (view d)) ≡ false
+  is_room m h le = ap not (has_room d h m le)
 
-  pub is-unset : (a b : Bool) → a ≡ has AUTO_CRC (get_or d.cells 1 0) → not a ≡ b → not (has AUTO_CRC (reg switches1 (view d))) ≡ b
+  pub is_unset : (a b : Bool) → a ≡ has AUTO_CRC (get_or d.cells 1 0) → not a ≡ b → not (has AUTO_CRC (reg switches1 (view d))) ≡ b
   unfolding registers.cell
-  is-unset a b e f = ap not (sym e) ∙ f
+  is_unset a b e f = ap not (sym e) ∙ f
 
   pub is_set : (a b : Bool) → a ≡ has AUTO_PRE (get_or d.cells 4 0) → a ≡ b → has AUTO_PRE (reg control0 (view d)) ≡ b
   unfolding registers.cell
   is_set a b e f = sym e ∙ f
 
-  pub is-undriven : (a b : Bool) → a ≡ driver_on (get_or d.cells 1 0) → not a ≡ b → not (driver_on (reg switches1 (view d))) ≡ b
+  pub is_undriven : (a b : Bool) → a ≡ driver_on (get_or d.cells 1 0) → not a ≡ b → not (driver_on (reg switches1 (view d))) ≡ b
   unfolding registers.cell
-  is-undriven a b e f = ap not (sym e) ∙ f
+  is_undriven a b e f = ap not (sym e) ∙ f
 
 -- ---- the first that applies
 
@@ -52,14 +52,14 @@ module _ (s : State) (k : ℕ) (m : List ℕ) where
   abbrev heard : Option Reason
   heard = first_cause (drop 2 (causes s k m))
 
-  pub at-kind : not (kind_on k s) ≡ true → some kind_off ≡ heard
+  pub at_kind : not (kind_on k s) ≡ true → some kind_off ≡ heard
   unfolding first_cause
-  at-kind e = rw e refl
+  at_kind e = rw e refl
 
   module _ (on : not (kind_on k s) ≡ false) where
-    pub at-crc : not (crc_right m) ≡ true → some crc_wrong ≡ heard
+    pub at_crc : not (crc_right m) ≡ true → some crc_wrong ≡ heard
     unfolding first_cause
-    at-crc e = rw (on, e) refl
+    at_crc e = rw (on, e) refl
 
     module _ (right : not (crc_right m) ≡ false) where
       pub at_room : not (fits_rx m s) ≡ true → some no_room ≡ heard
@@ -67,24 +67,24 @@ module _ (s : State) (k : ℕ) (m : List ℕ) where
       at_room e = rw (on, right, e) refl
 
       module _ (room : not (fits_rx m s) ≡ false) where
-        pub at-good-crc : is_control GoodCRC m ≡ true → some is_good_crc ≡ heard
+        pub at_good_crc : is_control GoodCRC m ≡ true → some is_good_crc ≡ heard
         unfolding first_cause
-        at-good-crc e = rw (on, right, room, e) refl
+        at_good_crc e = rw (on, right, room, e) refl
 
         module _ (other : is_control GoodCRC m ≡ false) where
-          pub at-auto-crc : not (has AUTO_CRC (reg switches1 s)) ≡ true → some auto_crc_off ≡ heard
+          pub at_auto_crc : not (has AUTO_CRC (reg switches1 s)) ≡ true → some auto_crc_off ≡ heard
           unfolding first_cause
-          at-auto-crc e = rw (on, right, room, other, e) refl
+          at_auto_crc e = rw (on, right, room, other, e) refl
 
           module _ (auto : not (has AUTO_CRC (reg switches1 s)) ≡ false) where
-            pub at-auto-pre : has AUTO_PRE (reg control0 s) ≡ true → some auto_pre_on ≡ heard
+            pub at_auto_pre : has AUTO_PRE (reg control0 s) ≡ true → some auto_pre_on ≡ heard
             unfolding first_cause
-            at-auto-pre e = rw (on, right, room, other, auto, e) refl
+            at_auto_pre e = rw (on, right, room, other, auto, e) refl
 
             module _ (pre : has AUTO_PRE (reg control0 s) ≡ false) where
-              pub at-driver : not (driver_on (reg switches1 s)) ≡ true → some driver_off ≡ heard
+              pub at_driver : not (driver_on (reg switches1 s)) ≡ true → some driver_off ≡ heard
               unfolding first_cause
-              at-driver e = rw (on, right, room, other, auto, pre, e) refl
+              at_driver e = rw (on, right, room, other, auto, pre, e) refl
 
               pub at_none : not (driver_on (reg switches1 s)) ≡ false → none ≡ heard
               unfolding first_cause
@@ -93,19 +93,19 @@ module _ (s : State) (k : ℕ) (m : List ℕ) where
 -- ---- refused, or heard
 
 module _ (s : State) (k : ℕ) (m : List ℕ) where
-  pub refused-kind : 4 < k → some (refused 11) ≡ why s k m
+  pub refused_kind : 4 < k → some (refused 11) ≡ why s k m
   unfolding why first_cause no11
-  refused-kind h = simp (lt-ltb 4 k h)
+  refused_kind h = simp (lt-ltb 4 k h)
 
   module _ (sop : k ≤ 4) where
-    pub refused-short : length m < 6 → some (refused 9) ≡ why s k m
+    pub refused_short : length m < 6 → some (refused 9) ≡ why s k m
     unfolding why first_cause no11 no9
-    refused-short h = simp (le-ltb 4 k sop, lt-ltb (length m) 6 h)
+    refused_short h = simp (le-ltb 4 k sop, lt-ltb (length m) 6 h)
 
     module _ (many : 6 ≤ length m) where
-      pub refused-long : 34 < length m → some (refused 9) ≡ why s k m
+      pub refused_long : 34 < length m → some (refused 9) ≡ why s k m
       unfolding why first_cause no11 no9
-      refused-long h = simp (le-ltb 4 k sop, le-ltb (length m) 6 many, lt-ltb 34 (length m) h)
+      refused_long h = simp (le-ltb 4 k sop, le-ltb (length m) 6 many, lt-ltb 34 (length m) h)
 
       pub taken : length m ≤ 34 → (o : Option Reason) → o ≡ first_cause (drop 2 (causes s k m)) → o ≡ why s k m
       unfolding why first_cause no11 no9

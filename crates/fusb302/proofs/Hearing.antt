@@ -39,8 +39,8 @@ use Rattle.machine.specs.Packets.{
 }
 use Rattle.machine.specs.Events.{Event, packet}
 use Rattle.machine.specs.Step.{accepted, reply_to}
-use Rattle.machine.proofs.Resetting.{reset-id}
-use Rattle.machine.proofs.Checking.{packet-checks}
+use Rattle.machine.proofs.Resetting.{reset_id}
+use Rattle.machine.proofs.Checking.{packet_checks}
 use Rattle.machine.proofs.Spelling.{spelt_exactly}
 use Rattle.fusb302.specs.declared.queue.Message.{Message}
 use Rattle.fusb302.specs.declared.queue.Message.TheVariants.{Spelt, Nothing}
@@ -52,9 +52,9 @@ use Rattle.fusb302.specs.Queued.{queued, spelt_as}
 use Rattle.fusb302.specs.Held.{held, Sound}
 use Rattle.fusb302.specs.View.{asked, view, Arranged, Asks}
 use Rattle.fusb302.specs.Serves.{replied, Becomes, Sends, Does, Serves}
-use Rattle.fusb302.proofs.Serving.{serves-no, serves-yes}
+use Rattle.fusb302.proofs.Serving.{serves_no, serves_yes}
 use Rattle.fusb302.proofs.Showing.{held_length}
-use Rattle.fusb302.proofs.Sending.{sends_none, spelt-in-array}
+use Rattle.fusb302.proofs.Sending.{sends_none, spelt_in_array}
 use Rattle.fusb302.proofs.Becoming.{done, and_then, silently, sending}
 
 -- ---- the GoodCRC that is awaited
@@ -72,35 +72,35 @@ no_answer k m none h = refl
 no_answer k m (some f) h = rw h refl
 
 module _ (d : Device) (k : ℕ) (m : List ℕ) where
-  pub awaits-idle : d.request.active ≡ false → false ≡ awaited k m (view d)
+  pub awaits_idle : d.request.active ≡ false → false ≡ awaited k m (view d)
   unfolding awaited_by
-  awaits-idle e = rw e refl
+  awaits_idle e = rw e refl
 
   module _ (active : d.request.active ≡ true) where
-    pub awaits-other : is_control GoodCRC m ≡ false → false ≡ awaited k m (view d)
+    pub awaits_other : is_control GoodCRC m ≡ false → false ≡ awaited k m (view d)
     unfolding awaited_by
-    awaits-other h = rw active (sym (no_answer k m (flight (view d) (asked d.request)) h))
+    awaits_other h = rw active (sym (no_answer k m (flight (view d) (asked d.request)) h))
 
-    pub awaits-reset : is_control GoodCRC m ≡ true → d.request.resetting < sop_kinds
+    pub awaits_reset : is_control GoodCRC m ≡ true → d.request.resetting < sop_kinds
         → (b : Bool) → b ≡ (eqb d.request.resetting k && eqb 0 (message_id m)) → b ≡ awaited k m (view d)
     unfolding awaited_by flight_in
-    awaits-reset h on b p =
+    awaits_reset h on b p =
         let j = d.request.resetting in
         rw (active, lt-ltb j sop_kinds on, h)
-        (p ∙ ap (λ (i : ℕ). eqb j k && eqb i (message_id m)) (sym (reset-id j (asked d.request))))
+        (p ∙ ap (λ (i : ℕ). eqb j k && eqb i (message_id m)) (sym (reset_id j (asked d.request))))
 
     module _ (sending : sop_kinds ≤ d.request.resetting) (r : Message) (is : spelt_as r (queued d.tx) ≡ spelt (queued d.tx)) where
-      pub awaits-nothing : r ≡ Nothing → false ≡ awaited k m (view d)
+      pub awaits_nothing : r ≡ Nothing → false ≡ awaited k m (view d)
       unfolding awaited_by flight_in
-      awaits-nothing e =
+      awaits_nothing e =
           let nothing : none ≡ spelt (queued d.tx) = rw e at is in
           rw (active, le-ltb d.request.resetting sop_kinds sending, ← nothing) refl
 
-      pub awaits-message : is_control GoodCRC m ≡ true → (j n : ℕ) → r ≡ Spelt j n → (id : ℕ) → id ≡ message_id (take 2 (drop 5 d.tx.octets))
+      pub awaits_message : is_control GoodCRC m ≡ true → (j n : ℕ) → r ≡ Spelt j n → (id : ℕ) → id ≡ message_id (take 2 (drop 5 d.tx.octets))
           → (b : Bool) → b ≡ (eqb j k && eqb id (message_id m)) → b ≡ awaited k m (view d)
       unfolding awaited_by flight_in
-      awaits-message h j n e id q b p =
-          let s = spelt-in-array d.tx r is j n e in
+      awaits_message h j n e id q b p =
+          let s = spelt_in_array d.tx r is j n e in
           let many = ((spelt_exactly (queued d.tx) _).0 s).many in
           let long = length-take (5 + n - 5) (drop 5 d.tx.octets) in
           let two : 2 ≤ 5 + n - 5 = omega arith in
@@ -110,23 +110,23 @@ module _ (d : Device) (k : ℕ) (m : List ℕ) where
 -- ---- whether a GoodCRC leaves
 
 module _ (d : Device) (m : List ℕ) where
-  pub replies-not : is_control GoodCRC m ≡ true → false ≡ replies_to m (view d)
+  pub replies_not : is_control GoodCRC m ≡ true → false ≡ replies_to m (view d)
   unfolding replies_to
-  replies-not h = rw h refl
+  replies_not h = rw h refl
 
   module _ (other : is_control GoodCRC m ≡ false) where
-    pub replies-off : has AUTO_CRC (get_or d.cells 1 0) ≡ false → false ≡ replies_to m (view d)
+    pub replies_off : has AUTO_CRC (get_or d.cells 1 0) ≡ false → false ≡ replies_to m (view d)
     unfolding replies_to cell
-    replies-off h = rw (other, h) refl
+    replies_off h = rw (other, h) refl
 
-    pub replies-pre : has AUTO_CRC (get_or d.cells 1 0) ≡ true → has AUTO_PRE (get_or d.cells 4 0) ≡ true → false ≡ replies_to m (view d)
+    pub replies_pre : has AUTO_CRC (get_or d.cells 1 0) ≡ true → has AUTO_PRE (get_or d.cells 4 0) ≡ true → false ≡ replies_to m (view d)
     unfolding replies_to cell
-    replies-pre h p = rw (other, h, p) refl
+    replies_pre h p = rw (other, h, p) refl
 
-    pub replies-driver : has AUTO_CRC (get_or d.cells 1 0) ≡ true → has AUTO_PRE (get_or d.cells 4 0) ≡ false → (b : Bool) → b ≡ driver_on (get_or d.cells 1 0)
+    pub replies_driver : has AUTO_CRC (get_or d.cells 1 0) ≡ true → has AUTO_PRE (get_or d.cells 4 0) ≡ false → (b : Bool) → b ≡ driver_on (get_or d.cells 1 0)
         → b ≡ replies_to m (view d)
     unfolding replies_to cell
-    replies-driver h p b q = rw (other, h, p) q
+    replies_driver h p b q = rw (other, h, p) q
 
 -- ---- what is noted of it
 
@@ -134,13 +134,13 @@ module _ (d : Device) (arranged : Arranged d) (b : Bool) where
   pub not_noted : b ≡ false → (f : State → State) → Becomes (only_if b f (view d)) d
   not_noted e f = rw e (record { state = refl; arranged = arranged })
 
-  pub ends-request : b ≡ true → (t u : Device) → Becomes (over (view d)) t → Becomes (raises_a I_TXSENT (view t)) u
+  pub ends_request : b ≡ true → (t u : Device) → Becomes (over (view d)) t → Becomes (raises_a I_TXSENT (view t)) u
       → Becomes (only_if b acknowledged (view d)) u
-  ends-request e t u x y = rw e (and_then _ t x (raises_a I_TXSENT) u y)
+  ends_request e t u x y = rw e (and_then _ t x (raises_a I_TXSENT) u y)
 
-  pub shows-reset : b ≡ true → (t u : Device) → Becomes (shows SOFTRST (view d)) t → Becomes (raises_a I_SOFTRST (view t)) u
+  pub shows_reset : b ≡ true → (t u : Device) → Becomes (shows SOFTRST (view d)) t → Becomes (raises_a I_SOFTRST (view t)) u
       → Becomes (only_if b soft_reset_heard (view d)) u
-  shows-reset e t u x y = rw e (and_then _ t x (raises_a I_SOFTRST) u y)
+  shows_reset e t u x y = rw e (and_then _ t x (raises_a I_SOFTRST) u y)
 
 -- ---- what is stored
 
@@ -179,20 +179,20 @@ module _ (d : Device) (arranged : Arranged d) (k : ℕ) (sop : k < sop_kinds) (m
   unfolding keeps
   keeps_on h = rw (counted, ne_eqb rx.len rx_room h) is-longer
 
-  pub keeps-full : rx.len ≡ rx_room → (u : Device) → Becomes (raises I_ALERT (view longer)) u → Becomes (keeps k m (view d)) u
+  pub keeps_full : rx.len ≡ rx_room → (u : Device) → Becomes (raises I_ALERT (view longer)) u → Becomes (keeps k m (view d)) u
   unfolding keeps
-  keeps-full h u x = rw (counted, eq-eqb rx.len rx_room h) (and_then _ longer is-longer (raises I_ALERT) u x)
+  keeps_full h u x = rw (counted, eq-eqb rx.len rx_room h) (and_then _ longer is-longer (raises I_ALERT) u x)
 
 module _ (d : Device) (k : ℕ) (m : List ℕ) (t : Device) (kept : Becomes (keeps k m (view d)) t) (before : List ℕ) where
-  pub stores-only : replies_to m (view d) ≡ false → Does (stores k m (view d)) before (done t 0) before
+  pub stores_only : replies_to m (view d) ≡ false → Does (stores k m (view d)) before (done t 0) before
   unfolding stores
-  stores-only e = rw e (silently _ t kept before)
+  stores_only e = rw e (silently _ t kept before)
 
-  pub stores-replies : replies_to m (view d) ≡ true → (u : Device) → Becomes (raises_b I_GCRCSENT (view t)) u → (n : ℕ) (after : List ℕ)
+  pub stores_replies : replies_to m (view d) ≡ true → (u : Device) → Becomes (raises_b I_GCRCSENT (view t)) u → (n : ℕ) (after : List ℕ)
       → Sends (control GoodCRC k (get_or d.cells 1 0) (message_id m) ∷ []) before n after
       → Does (stores k m (view d)) before (done u n) after
   unfolding stores cell
-  stores-replies e u x n after sent =
+  stores_replies e u x n after sent =
       rw e (sending _ u (and_then _ t kept (raises_b I_GCRCSENT) u x) before n after (control GoodCRC k (get_or d.cells 1 0) (message_id m)) sent)
 
 -- ---- a packet whose CRC is right
@@ -216,19 +216,19 @@ module _ (d a b c : Device) (k : ℕ) (m : List ℕ) (w r : Bool) (awaits : w �
       ∙ ap (λ (v : Bool). only_if r soft_reset_heard (only_if v acknowledged (checks (view d)))) awaits
       ∙ ap (λ (v : Bool). only_if v soft_reset_heard (only_if (awaited k m (view d)) acknowledged (checks (view d)))) resets
 
-  pub accepts-stores : fits_rx m (view c) ≡ true → (before : List ℕ) (o : Outcome) (after : List ℕ) → Does (stores k m (view c)) before o after
+  pub accepts_stores : fits_rx m (view c) ≡ true → (before : List ℕ) (o : Outcome) (after : List ℕ) → Does (stores k m (view c)) before o after
       → Does (accepts k m (view d)) before o after
   unfolding accepts
-  accepts-stores e before o after x =
+  accepts_stores e before o after x =
       let same : accepts k m (view d) ≡ stores k m (view c) =
       ap (λ (t : State). cond (fits_rx m t) (stores k m t) (silent (raises I_ALERT t))) (sym is-noted)
       ∙ ap (λ (v : Bool). cond v (stores k m (view c)) (silent (raises I_ALERT (view c)))) e in
       subst (λ (y : Effect). Does y before o after) (sym same) x
 
-  pub accepts-full : fits_rx m (view c) ≡ false → (u : Device) → Becomes (raises I_ALERT (view c)) u → (before : List ℕ)
+  pub accepts_full : fits_rx m (view c) ≡ false → (u : Device) → Becomes (raises I_ALERT (view c)) u → (before : List ℕ)
       → Does (accepts k m (view d)) before (done u 0) before
   unfolding accepts
-  accepts-full e u x before =
+  accepts_full e u x before =
       let same : accepts k m (view d) ≡ silent (raises I_ALERT (view c)) =
       ap (λ (t : State). cond (fits_rx m t) (stores k m t) (silent (raises I_ALERT t))) (sym is-noted)
       ∙ ap (λ (v : Bool). cond v (stores k m (view c)) (silent (raises I_ALERT (view c)))) e in
@@ -240,11 +240,11 @@ module _ (d : Device) (k : ℕ) (m : List ℕ) (before : List ℕ) where
   abbrev listens : Bool
   listens = cond (eqb k 0) true (has (enables k) (get_or d.cells 5 0))
 
-  pub hears-off : Arranged d → listens ≡ false → Does (hears k m (view d)) before (record { device = d; reply = Done; count = 0 }) before
+  pub hears_off : Arranged d → listens ≡ false → Does (hears k m (view d)) before (record { device = d; reply = Done; count = 0 }) before
   unfolding hears kind_on cell
-  hears-off h e = rw e (record { state = refl; arranged = h; reply = refl; sends = sends_none before })
+  hears_off h e = rw e (record { state = refl; arranged = h; reply = refl; sends = sends_none before })
 
-  pub hears-wrong : Arranged d → listens ≡ true → crc_right m ≡ false
+  pub hears_wrong : Arranged d → listens ≡ true → crc_right m ≡ false
       → Does (hears k m (view d)) before
       (record {
         device =
@@ -261,14 +261,14 @@ module _ (d : Device) (k : ℕ) (m : List ℕ) (before : List ℕ) where
         count = 0;
       }) before
   unfolding hears kind_on cell
-  hears-wrong h e r =
+  hears_wrong h e r =
       rw (e, r)
       (record { state = refl; arranged = record { cells = h.cells; tx = h.tx; rx = h.rx }; reply = refl; sends = sends_none before })
 
-  pub hears-right : listens ≡ true → crc_right m ≡ true → (o : Outcome) (after : List ℕ) → Does (accepts k m (view d)) before o after
+  pub hears_right : listens ≡ true → crc_right m ≡ true → (o : Outcome) (after : List ℕ) → Does (accepts k m (view d)) before o after
       → Does (hears k m (view d)) before o after
   unfolding hears kind_on cell
-  hears-right e r o after x = rw (e, r) x
+  hears_right e r o after x = rw (e, r) x
 
 -- ---- refused, or heard
 
@@ -280,33 +280,33 @@ module _ (d : Device) (asks : Asks d) (before : List ℕ) (k : ℕ) (m : List �
   abbrev heard : Event
   heard = packet (length before) k m
 
-  pub packet-small : length before < frame_room → Serves heard d before (record { device = d; reply = No 12; count = 0 }) before
-  packet-small h = serves-no heard d before asks 12 (packet-checks (view d) (length before) k m ∙ simp (lt-ltb (length before) frame_room h))
+  pub packet_small : length before < frame_room → Serves heard d before (record { device = d; reply = No 12; count = 0 }) before
+  packet_small h = serves_no heard d before asks 12 (packet_checks (view d) (length before) k m ∙ simp (lt-ltb (length before) frame_room h))
 
   module _ (room : frame_room ≤ length before) where
-    pub packet-kind : 4 < k → Serves heard d before (record { device = d; reply = No 11; count = 0 }) before
-    packet-kind h =
-        serves-no heard d before asks 11
-        (packet-checks (view d) (length before) k m ∙ simp (le-ltb (length before) frame_room room, lt-ltb 4 k h))
+    pub packet_kind : 4 < k → Serves heard d before (record { device = d; reply = No 11; count = 0 }) before
+    packet_kind h =
+        serves_no heard d before asks 11
+        (packet_checks (view d) (length before) k m ∙ simp (le-ltb (length before) frame_room room, lt-ltb 4 k h))
 
     module _ (sop : k ≤ 4) where
-      pub packet-short : length m < 6 → Serves heard d before (record { device = d; reply = No 9; count = 0 }) before
-      packet-short h =
-          serves-no heard d before asks 9
-          (packet-checks (view d) (length before) k m ∙ simp (le-ltb (length before) frame_room room, le-ltb 4 k sop, lt-ltb (length m) 6 h))
+      pub packet_short : length m < 6 → Serves heard d before (record { device = d; reply = No 9; count = 0 }) before
+      packet_short h =
+          serves_no heard d before asks 9
+          (packet_checks (view d) (length before) k m ∙ simp (le-ltb (length before) frame_room room, le-ltb 4 k sop, lt-ltb (length m) 6 h))
 
       module _ (lo : 6 ≤ length m) where
-        pub packet-long : 34 < length m → Serves heard d before (record { device = d; reply = No 9; count = 0 }) before
-        packet-long h =
-            serves-no heard d before asks 9
-            (packet-checks (view d) (length before) k m
+        pub packet_long : 34 < length m → Serves heard d before (record { device = d; reply = No 9; count = 0 }) before
+        packet_long h =
+            serves_no heard d before asks 9
+            (packet_checks (view d) (length before) k m
             ∙ simp (le-ltb (length before) frame_room room, le-ltb 4 k sop, le-ltb (length m) 6 lo, lt-ltb 34 (length m) h))
 
-        pub packet-heard : length m ≤ 34 → ((i : ℕ) → get_or m i 0 < 256) → (o : Outcome) (after : List ℕ)
+        pub packet_heard : length m ≤ 34 → ((i : ℕ) → get_or m i 0 < 256) → (o : Outcome) (after : List ℕ)
             → Does (hears k m (view d)) before o after → Serves heard d before o after
         unfolding accepted reply_to
-        packet-heard hi small o after h =
-            serves-yes heard d before asks
-            (packet-checks (view d) (length before) k m
+        packet_heard hi small o after h =
+            serves_yes heard d before asks
+            (packet_checks (view d) (length before) k m
             ∙ simp (le-ltb (length before) frame_room room, le-ltb 4 k sop, le-ltb (length m) 6 lo, le-ltb 34 (length m) hi))
             (omega arith, octets_of_lem m small) o after h.arranged h.state (ap replied h.reply) h.sends.count h.sends.lent

@@ -40,9 +40,9 @@ module _ (code kind sw id : ℕ) (h : sw < 256) (k : id < 8) (l : code < 16) whe
   high : sw / 16 < 16
   high = omega arith
 
-  pub on-sop : kind ≡ 0 → bit_or (roles (sw / 16) (sw / 128)) (common (sw / 32) id code) ≡ header code kind sw id
+  pub on_sop : kind ≡ 0 → bit_or (roles (sw / 16) (sw / 128)) (common (sw / 32) id code) ≡ header code kind sw id
   unfolding header
-  on-sop e =
+  on_sop e =
       rw (e, ← div-div-eq-div-mul sw 16 2, ← div-div-eq-div-mul sw 16 8)
       (agree (λ x i t. bit_or (roles x (x / 8)) (common (x / 2) i t)) (λ x i t. sum x (x / 8) (x / 2) i t) tt (sw / 16) id code high k l)
 

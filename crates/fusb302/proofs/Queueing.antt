@@ -79,12 +79,12 @@ after zero b h = absurd (h refl)
 after (suc n) b h = omega arith
 
 module _ (q : List ℕ) (b : ℕ) where
-  pub left-token : to_come 0 q ≡ 0 → to_come 0 (q ++ (b ∷ [])) ≡ announced b
+  pub left_token : to_come 0 q ≡ 0 → to_come 0 (q ++ (b ∷ [])) ≡ announced b
   unfolding to_come
-  left-token e = to_come_append 0 q (b ∷ []) ∙ ap (λ (n : ℕ). to_come n (b ∷ [])) e
+  left_token e = to_come_append 0 q (b ∷ []) ∙ ap (λ (n : ℕ). to_come n (b ∷ [])) e
 
-  pub left-data : (to_come 0 q ≡ 0 → ⊥) → to_come 0 (q ++ (b ∷ [])) ≡ to_come 0 q - 1
-  left-data h = to_come_append 0 q (b ∷ []) ∙ after (to_come 0 q) b h
+  pub left_data : (to_come 0 q ≡ 0 → ⊥) → to_come 0 (q ++ (b ∷ [])) ≡ to_come 0 q - 1
+  left_data h = to_come_append 0 q (b ∷ []) ∙ after (to_come 0 q) b h
 
 -- ---- the SOP kind of four tokens
 
@@ -157,11 +157,11 @@ module _ (l : List ℕ) where
   pub kind_is : (k : ℕ) → same_list l (set_tokens k) ≡ true → kind_of (set_tokens k) ≡ kind_of l
   kind_is k e = sym (ap kind_of (same_list_lem l (set_tokens k) e))
 
-  pub kind-none : length l ≡ 4
+  pub kind_none : length l ≡ 4
       → same_list l (set_tokens 0) ≡ false → same_list l (set_tokens 1) ≡ false → same_list l (set_tokens 2) ≡ false
       → same_list l (set_tokens 3) ≡ false → same_list l (set_tokens 4) ≡ false → none ≡ kind_of l
   unfolding kind_from set_symbol tokens
-  kind-none four a b c d e =
+  kind_none four a b c d e =
       rw (
         apart (set_tokens 0) l refl refl four a,
         apart (set_tokens 1) l refl refl four b,
@@ -223,9 +223,9 @@ module _ (octets : List ℕ) (len : ℕ) where
   unfolding announced
   no-fifth h = rw (get_or-eq_default (take len octets) 0 {n = 4} (rw length-take (omega arith)))
 
-  pub spelt-uncounted : announced (get_or octets 4 0) ≡ 0 → none ≡ spelt (take len octets)
+  pub spelt_uncounted : announced (get_or octets 4 0) ≡ 0 → none ≡ spelt (take len octets)
   unfolding spelt
-  spelt-uncounted e =
+  spelt_uncounted e =
       let nothing : announced (get_or (take len octets) 4 0) ≡ 0 =
       elim (dec_le len 4) [
         | yes h ↦ no-fifth h
@@ -233,9 +233,9 @@ module _ (octets : List ℕ) (len : ℕ) where
       ] in
       no_end _ _ _ (simp nothing)
 
-  pub spelt-misfit : len ≤ length octets → (len ≡ announced (get_or octets 4 0) + 8 → ⊥) → none ≡ spelt (take len octets)
+  pub spelt_misfit : len ≤ length octets → (len ≡ announced (get_or octets 4 0) + 8 → ⊥) → none ≡ spelt (take len octets)
   unfolding spelt
-  spelt-misfit k n =
+  spelt_misfit k n =
       let q = take len octets in
       let m = announced (get_or q 4 0) in
       let l = length-take-le len octets k in
@@ -272,21 +272,21 @@ module _ (octets : List ℕ) (len : ℕ) where
           get_or-take len octets (n + 7) 0 (omega arith),
         )
 
-    pub spelt-unset : none ≡ kind_of (take 4 octets) → none ≡ spelt (take len octets)
-    spelt-unset e = no_sop _ n (take len octets) e ∙ sym at_length
+    pub spelt_unset : none ≡ kind_of (take 4 octets) → none ≡ spelt (take len octets)
+    spelt_unset e = no_sop _ n (take len octets) e ∙ sym at_length
 
     ended-else : same_list (get_or octets (n + 5) 0 ∷ get_or octets (n + 6) 0 ∷ get_or octets (n + 7) 0 ∷ []) closing ≡ false
         → none ≡ spelt (take len octets)
     ended-else e = no_end _ n (take len octets) (rw end (simp (e, and-false))) ∙ sym at_length
 
-    pub spelt-no-crc : (get_or octets (n + 5) 0 ≡ CRC → ⊥) → none ≡ spelt (take len octets)
-    spelt-no-crc h = ended-else (simp (ne_eqb _ _ h))
+    pub spelt_no_crc : (get_or octets (n + 5) 0 ≡ CRC → ⊥) → none ≡ spelt (take len octets)
+    spelt_no_crc h = ended-else (simp (ne_eqb _ _ h))
 
-    pub spelt-no-eop : (get_or octets (n + 6) 0 ≡ EOP → ⊥) → none ≡ spelt (take len octets)
-    spelt-no-eop h = ended-else (simp (ne_eqb _ _ h, and-false))
+    pub spelt_no_eop : (get_or octets (n + 6) 0 ≡ EOP → ⊥) → none ≡ spelt (take len octets)
+    spelt_no_eop h = ended-else (simp (ne_eqb _ _ h, and-false))
 
-    pub spelt-no-off : (get_or octets (n + 7) 0 ≡ TXOFF → ⊥) → none ≡ spelt (take len octets)
-    spelt-no-off h = ended-else (simp (ne_eqb _ _ h, and-false))
+    pub spelt_no_off : (get_or octets (n + 7) 0 ≡ TXOFF → ⊥) → none ≡ spelt (take len octets)
+    spelt_no_off h = ended-else (simp (ne_eqb _ _ h, and-false))
 
     pub spelt_whole : (k : ℕ) → (n ≡ 0 → ⊥) → sop_kind k ≡ kind_of (take 4 octets) → k ≤ 5 → (k ≡ 5 → ⊥)
         → get_or octets (n + 5) 0 ≡ CRC → get_or octets (n + 6) 0 ≡ EOP → get_or octets (n + 7) 0 ≡ TXOFF

@@ -32,7 +32,7 @@ use Rattle.machine.specs.Queue.{START, set_symbol, is_token, inside, spelt, is_m
 use Rattle.machine.specs.Requests.{opened, driver_on}
 use Rattle.machine.specs.Events.{write}
 use Rattle.machine.specs.Refusals.{tx_start, port_start, starts, sends_reset, to_be_stored, queue_at, refusal}
-use Rattle.machine.proofs.Checking.{write-checks}
+use Rattle.machine.proofs.Checking.{write_checks}
 use Rattle.machine.proofs.Spelling.{spelt_nil}
 use Rattle.fusb302.specs.declared.queue.Message.{Message}
 use Rattle.fusb302.specs.declared.queue.Message.TheVariants.{Spelt, Nothing}
@@ -46,11 +46,11 @@ use Rattle.fusb302.proofs.Answering.{at_id, at_stored, at_shown}
 -- ---- a start
 
 module _ (m : Message) (q : List ℕ) (h : spelt_as m q ≡ spelt q) where
-  pub is-spelt : (k n : ℕ) → m ≡ Spelt k n → is_message q ≡ true
-  is-spelt k n e = rw (← h, e) refl
+  pub is_spelt : (k n : ℕ) → m ≡ Spelt k n → is_message q ≡ true
+  is_spelt k n e = rw (← h, e) refl
 
-  pub not-spelt : m ≡ Nothing → is_message q ≡ false
-  not-spelt e = rw (← h, e) refl
+  pub not_spelt : m ≡ Nothing → is_message q ≡ false
+  not_spelt e = rw (← h, e) refl
 
 -- its queue spells a message, and its driver is on
 abbrev whole : Device → Bool
@@ -74,7 +74,7 @@ port_no busy within token begin full whole on =
 port_checks : (s : State) (room v : ℕ) → frame_room ≤ room → refusal s (write room fifos v)
     ≡ port_no (opened s) (inside s.tx) (is_token v) (eqb v START) (leb tx_room (length s.tx)) (is_message s.tx) (driver_on (reg switches1 s))
 unfolding exists is_stored read_only tx_start port_start starts sends_reset to_be_stored queue_at
-port_checks s room v h = write-checks s room fifos v ∙ simp (le-ltb room frame_room h, or-false)
+port_checks s room v h = write_checks s room fifos v ∙ simp (le-ltb room frame_room h, or-false)
 
 abbrev full : Device → Bool
 full d = leb tx_room d.tx.len
@@ -120,13 +120,13 @@ module _ (d : Device) (arranged : Arranged d) where
   outside = ap (λ (n : ℕ). not (ltb 0 n)) (sym arranged.tx.left) ∙ none_inside d.tx.left
 
   -- A1 at the port, where it is not data
-  pub port-start-is : (v : ℕ) → port_start (view d) fifos v ≡ (eqb d.tx.left 0 && eqb v START)
+  pub port_start_is : (v : ℕ) → port_start (view d) fifos v ≡ (eqb d.tx.left 0 && eqb v START)
   unfolding port_start
-  port-start-is v = ap (λ (b : Bool). b && eqb v START) outside
+  port_start_is v = ap (λ (b : Bool). b && eqb v START) outside
 
   module _ (v : ℕ) where
-    pub port-busy : d.request.active ≡ true → Refuses (view d) fifos v 6
-    port-busy h = record { is = λ room r. port_checks (view d) room v r ∙ rw (opened_is d ∙ h) refl }
+    pub port_busy : d.request.active ≡ true → Refuses (view d) fifos v 6
+    port_busy h = record { is = λ room r. port_checks (view d) room v r ∙ rw (opened_is d ∙ h) refl }
 
     module _ (free : d.request.active ≡ false) where
       at-port : (n : ℕ) (within token begin : Bool) → inside (queued d.tx) ≡ within → is_token v ≡ token → eqb v START ≡ begin
@@ -140,8 +140,8 @@ module _ (d : Device) (arranged : Arranged d) where
                 ∙ rw (opened_is d ∙ free, p, q, r, queued_length d.tx arranged.tx) e;
           }
 
-      pub port-data : (d.tx.left ≡ 0 → ⊥) → (n : ℕ) → n ≡ cond (full d) 5 0 → Refuses (view d) fifos v n
-      port-data h n e =
+      pub port_data : (d.tx.left ≡ 0 → ⊥) → (n : ℕ) → n ≡ cond (full d) 5 0 → Refuses (view d) fifos v n
+      port_data h n e =
           at-port n true (is_token v) (eqb v START) (not_false _ (outside ∙ ne_eqb _ _ h)) refl refl
           (data_no (is_token v) (eqb v START) (full d) (whole d) (on d) ∙ ap no_of (sym e))
 
@@ -149,21 +149,21 @@ module _ (d : Device) (arranged : Arranged d) where
         token : inside (queued d.tx) ≡ false
         token = not-true _ (outside ∙ eq-eqb _ _ h)
 
-        pub port-start : v ≡ START → (n : ℕ) → n ≡ start_no (whole d) (on d) → Refuses (view d) fifos v n
+        pub port_start_lem : v ≡ START → (n : ℕ) → n ≡ start_no (whole d) (on d) → Refuses (view d) fifos v n
         unfolding is_token set_symbol
-        port-start s n e =
+        port_start_lem s n e =
             at-port n false true true token (ap is_token s) (eq-eqb _ _ s) (start_no_lem (full d) (whole d) (on d) ∙ ap no_of (sym e))
 
         module _ (s : v ≡ START → ⊥) where
-          pub port-token : is_token v ≡ true → (n : ℕ) → n ≡ cond (full d) 5 0 → Refuses (view d) fifos v n
-          port-token t n e =
+          pub port_token : is_token v ≡ true → (n : ℕ) → n ≡ cond (full d) 5 0 → Refuses (view d) fifos v n
+          port_token t n e =
               at-port n false true false token t (ne_eqb _ _ s) (token_no (full d) (whole d) (on d) ∙ ap no_of (sym e))
 
-          pub port-bad : is_token v ≡ false → Refuses (view d) fifos v 3
-          port-bad t = at-port 3 false false false token t (ne_eqb _ _ s) refl
+          pub port_bad : is_token v ≡ false → Refuses (view d) fifos v 3
+          port_bad t = at-port 3 false false false token t (ne_eqb _ _ s) refl
 
-    pub port-room : Refuses (view d) fifos v 0 → (eqb d.tx.left 0 && eqb v START) ≡ false → d.tx.len < tx_room
-    port-room taken h =
+    pub port_room : Refuses (view d) fifos v 0 → (eqb d.tx.left 0 && eqb v START) ≡ false → d.tx.len < tx_room
+    port_room taken h =
         let none_left : leb tx_room (length (queued d.tx)) ≡ false =
         room_left (opened (view d)) (inside (queued d.tx)) (is_token v) (eqb v START) _ (whole d) (driver_on (reg switches1 (view d)))
         (sym (port_checks (view d) frame_room v (omega arith)) ∙ taken.is frame_room (omega arith))
@@ -179,27 +179,27 @@ there true false o h = (refl, refl)
 there false r o h = let z : ◌≡◌ {A = ℕ} 0 1 = cc in absurd (omega arith)
 
 module _ (s : State) (a v : ℕ) where
-  pub write-nowhere : exists a ≡ false → Refuses s a v 1
-  write-nowhere e = record { is = λ room h. write-checks s room a v ∙ rw (le-ltb room frame_room h, e) refl }
+  pub write_nowhere : exists a ≡ false → Refuses s a v 1
+  write_nowhere e = record { is = λ room h. write_checks s room a v ∙ rw (le-ltb room frame_room h, e) refl }
 
   read-only : exists a ≡ true → read_only a ≡ true → Refuses s a v 2
-  read-only e k = record { is = λ room h. write-checks s room a v ∙ rw (le-ltb room frame_room h, e, k) refl }
+  read-only e k = record { is = λ room h. write_checks s room a v ∙ rw (le-ltb room frame_room h, e, k) refl }
 
-  pub write-id : a ≡ device_id → Refuses s a v 2
+  pub write_id : a ≡ device_id → Refuses s a v 2
   unfolding read_only
-  write-id e = read-only (at_id a e).0 (rw e refl)
+  write_id e = read-only (at_id a e).0 (rw e refl)
 
-  pub write-shown : (0x3C ≤ a) × (a ≤ 0x42) → Refuses s a v 2
+  pub write_shown : (0x3C ≤ a) × (a ≤ 0x42) → Refuses s a v 2
   unfolding read_only
-  write-shown h =
+  write_shown h =
       let w = at_shown a h.0 h.1 in
       read-only w.0 (rw (w.3, le-leb 0x3C a h.0, le-leb a 0x42 h.1) refl)
 
   -- an address that is written, other than the port, is stored
-  pub taken-stored : Refuses s a v 0 → (a ≡ fifos → ⊥) → (2 ≤ a) × (a ≤ 0x10)
+  pub taken_stored : Refuses s a v 0 → (a ≡ fifos → ⊥) → (2 ≤ a) × (a ≤ 0x10)
   unfolding exists is_stored
-  taken-stored taken n =
-      let p = there (exists a) (read_only a) _ (sym (write-checks s frame_room a v) ∙ taken.is frame_room (omega arith)) in
+  taken_stored taken n =
+      let p = there (exists a) (read_only a) _ (sym (write_checks s frame_room a v) ∙ taken.is frame_room (omega arith)) in
       let is : is_stored a ≡ true = simp (p.1, ne_eqb a fifos n, or-false) at p.0 in
       let both = (and-eq-true_iff (leb 2 a) (leb a 0x10)).0 is in
       (leb-true 2 a both.0, leb-true a 0x10 both.1)
@@ -218,25 +218,25 @@ module _ (s : State) (a v : ℕ) (lo : 2 ≤ a) (hi : a ≤ 0x10) where
   unfolding port_start starts to_be_stored read_only
   register-checks room h =
       let w = at_stored a lo hi in
-      write-checks s room a v ∙ simp (le-ltb room frame_room h, w.0, w.1, w.3, lt-leb 0x3C a (omega arith), or-false)
+      write_checks s room a v ∙ simp (le-ltb room frame_room h, w.0, w.1, w.3, lt-leb 0x3C a (omega arith), or-false)
 
   -- no start, and no Hard Reset
   quiet : tx_start a v ≡ false → sends_reset a v ≡ false → Refuses s a v 0
   quiet p q = record { is = λ room h. register-checks room h ∙ rw (p, q) refl }
 
-  pub not-command : (a ≡ control0 → ⊥) → (a ≡ control3 → ⊥) → Refuses s a v 0
+  pub not_command : (a ≡ control0 → ⊥) → (a ≡ control3 → ⊥) → Refuses s a v 0
   unfolding tx_start sends_reset
-  not-command p q = quiet (rw (ne_eqb _ _ p) refl) (rw (ne_eqb _ _ q) refl)
+  not_command p q = quiet (rw (ne_eqb _ _ p) refl) (rw (ne_eqb _ _ q) refl)
 
 -- Control0 and Control3
 module _ (d : Device) (v : ℕ) where
-  pub control0-quiet : has TX_START v ≡ false → Refuses (view d) control0 v 0
+  pub control0_quiet : has TX_START v ≡ false → Refuses (view d) control0 v 0
   unfolding tx_start sends_reset
-  control0-quiet h = quiet (view d) control0 v (omega arith) (omega arith) h refl
+  control0_quiet h = quiet (view d) control0 v (omega arith) (omega arith) h refl
 
-  pub control3-quiet : has SEND_HARD_RESET v ≡ false → Refuses (view d) control3 v 0
+  pub control3_quiet : has SEND_HARD_RESET v ≡ false → Refuses (view d) control3 v 0
   unfolding tx_start sends_reset
-  control3-quiet h = quiet (view d) control3 v (omega arith) (omega arith) refl h
+  control3_quiet h = quiet (view d) control3 v (omega arith) (omega arith) refl h
 
   module _ (h : has SEND_HARD_RESET v ≡ true) where
     at-reset : (n : ℕ) (b : Bool) → on d ≡ b → cond {A = Option ℕ} (not b) (some 7) none ≡ no_of n → Refuses (view d) control3 v n
@@ -244,11 +244,11 @@ module _ (d : Device) (v : ℕ) where
     at-reset n b e k =
         record { is = λ room r. register-checks (view d) control3 v (omega arith) (omega arith) room r ∙ rw (h, e) k }
 
-    pub control3-on : on d ≡ true → Refuses (view d) control3 v 0
-    control3-on e = at-reset 0 true e refl
+    pub control3_on : on d ≡ true → Refuses (view d) control3 v 0
+    control3_on e = at-reset 0 true e refl
 
-    pub control3-off : on d ≡ false → Refuses (view d) control3 v 7
-    control3-off e = at-reset 7 false e refl
+    pub control3_off : on d ≡ false → Refuses (view d) control3 v 7
+    control3_off e = at-reset 7 false e refl
 
   module _ (h : has TX_START v ≡ true) where
     at-start : (n : ℕ) (busy flush : Bool) → d.request.active ≡ busy → has TX_FLUSH v ≡ flush
@@ -258,20 +258,20 @@ module _ (d : Device) (v : ℕ) where
     at-start n busy flush p q e =
         record { is = λ room r. register-checks (view d) control0 v (omega arith) (omega arith) room r ∙ rw (h, opened_is d ∙ p, q) e }
 
-    pub control0-busy : d.request.active ≡ true → Refuses (view d) control0 v 6
-    control0-busy p = at-start 6 true (has TX_FLUSH v) p refl refl
+    pub control0_busy : d.request.active ≡ true → Refuses (view d) control0 v 6
+    control0_busy p = at-start 6 true (has TX_FLUSH v) p refl refl
 
-    pub control0-flush : d.request.active ≡ false → has TX_FLUSH v ≡ true → Refuses (view d) control0 v 4
-    control0-flush p q = at-start 4 false true p q (rw spelt_nil refl)
+    pub control0_flush : d.request.active ≡ false → has TX_FLUSH v ≡ true → Refuses (view d) control0 v 4
+    control0_flush p q = at-start 4 false true p q (rw spelt_nil refl)
 
-    pub control0-start : d.request.active ≡ false → has TX_FLUSH v ≡ false → (n : ℕ)
+    pub control0_start : d.request.active ≡ false → has TX_FLUSH v ≡ false → (n : ℕ)
         → n ≡ start_no (whole d) (on d) → Refuses (view d) control0 v n
-    control0-start p q n e = at-start n false false p q (start_no_lem false (whole d) (on d) ∙ ap no_of (sym e))
+    control0_start p q n e = at-start n false false p q (start_no_lem false (whole d) (on d) ∙ ap no_of (sym e))
 
   -- a start that is taken flushes nothing
-  pub no-flush : Refuses (view d) control0 v 0 → has TX_START v ≡ true → has TX_FLUSH v ≡ false
+  pub no_flush : Refuses (view d) control0 v 0 → has TX_START v ≡ true → has TX_FLUSH v ≡ false
   unfolding tx_start sends_reset queue_at
-  no-flush taken h =
+  no_flush taken h =
       go (has TX_FLUSH v) (opened (view d)) _
       (rw h at (sym (register-checks (view d) control0 v (omega arith) (omega arith) frame_room (omega arith)) ∙ taken.is frame_room (omega arith)))
     where

@@ -38,15 +38,15 @@ module _ (f : Frame) (before : List ℕ) (r : Written) (after : List ℕ) (whole
   unfolding first_no
   accepts = let h = right_length f whole in simp (le-ltb (length before) frame_room room, lt-ltb f.kind kinds h.0, h.1)
 
-  pub put-said : r ≡ Sent (length (symbols_of f))
+  pub put_said : r ≡ Sent (length (symbols_of f))
   unfolding wrote
-  put-said = one_meaning_written r (Sent (length (symbols_of f))) (w.says ∙ ap (λ o. wrote o f) accepts)
+  put_said = one_meaning_written r (Sent (length (symbols_of f))) (w.says ∙ ap (λ o. wrote o f) accepts)
 
-  pub put-sent : (n : ℕ) → r ≡ Sent n → Sends (f ∷ []) before n after
+  pub put_sent : (n : ℕ) → r ≡ Sent n → Sends (f ∷ []) before n after
   unfolding lent joined
-  put-sent n e =
+  put_sent n e =
       let all = append-nil (symbols_of f) in
-      let said = put-said in
+      let said = put_said in
       let long : n ≡ length (symbols_of f) = cc in
       record { count = rw all long; lent = rw all (w.leaves ∙ ap (λ o. lent o f before) accepts) }
 
@@ -84,8 +84,8 @@ module _ (tx : Queue) (r : Message) (is : spelt_as r (queued tx) ≡ spelt (queu
     pub by_count : spelt (queued tx) ≡ some (record { kind = k; octets = take n (drop 5 (queued tx)) })
     by_count = sym (rw e at is)
 
-    pub spelt-kind : k < sop_kinds
-    spelt-kind = ((spelt_exactly (queued tx) _).0 by_count).sop
+    pub spelt_kind : k < sop_kinds
+    spelt_kind = ((spelt_exactly (queued tx) _).0 by_count).sop
 
     inside : (5 + n ≤ tx.len) × (5 + n ≤ length tx.octets)
     inside = let c = counted (queued tx) k n by_count in let m = length-take tx.len tx.octets in (omega arith, omega arith)
@@ -93,7 +93,7 @@ module _ (tx : Queue) (r : Message) (is : spelt_as r (queued tx) ≡ spelt (queu
     pub in_array : 5 + n ≤ length tx.octets
     in_array = inside.1
 
-    pub spelt-in-array : spelt (queued tx) ≡ some (record { kind = k; octets = take (5 + n - 5) (drop 5 tx.octets) })
-    spelt-in-array =
+    pub spelt_in_array : spelt (queued tx) ≡ some (record { kind = k; octets = take (5 + n - 5) (drop 5 tx.octets) })
+    spelt_in_array =
         let less : 5 + n - 5 ≡ n = omega arith in
         by_count ∙ ap (λ l. some (record { kind = k; octets = l })) (rw less (within 5 n tx.len tx.octets inside.0))

@@ -20,7 +20,7 @@ use Rattle.machine.specs.Pins as comparators
 use Rattle.machine.specs.Status.{flag, differ, changes, I_VBUSOK, I_COMP_CHNG, I_BC_LVL}
 use Rattle.machine.specs.Events.{sense}
 use Rattle.machine.specs.Step.{senses, accepted, reply_to}
-use Rattle.machine.proofs.Checking.{sense-checks}
+use Rattle.machine.proofs.Checking.{sense_checks}
 use Rattle.fusb302.specs.declared.device.Device.{Device}
 use Rattle.fusb302.specs.declared.device.Reply.TheVariants.{Done, No}
 use Rattle.fusb302.specs.declared.pins.Millivolts.{Millivolts}
@@ -30,7 +30,7 @@ use Rattle.fusb302.specs.declared.pins.Readings.{Readings}
 use Rattle.fusb302.specs.Sensed.{pins_of, measured_as, shown_as}
 use Rattle.fusb302.specs.View.{view, Asks}
 use Rattle.fusb302.specs.Serves.{Becomes, Serves}
-use Rattle.fusb302.proofs.Serving.{serves-no, serves-yes}
+use Rattle.fusb302.proofs.Serving.{serves_no, serves_yes}
 
 -- ---- BC_LVL
 
@@ -46,24 +46,24 @@ module _ (sw : ℕ) (p : machine.Pins) (r : Measured) (is : measured_as r ≡ me
   on_none e = sym is ∙ ap measured_as e
 
   module _ (pwr : ℕ) (h : has PWR2 pwr ≡ true) where
-    pub level-pin : (v : Millivolts) → r ≡ Pin v → bc_lvl_of sw pwr p ≡ steps levels v.0
+    pub level_pin : (v : Millivolts) → r ≡ Pin v → bc_lvl_of sw pwr p ≡ steps levels v.0
     unfolding bc_lvl_of
-    level-pin v e = simp (h, on-pin v e)
+    level_pin v e = simp (h, on-pin v e)
 
-    pub level-none : r ≡ Nothing → bc_lvl_of sw pwr p ≡ 0
+    pub level_none : r ≡ Nothing → bc_lvl_of sw pwr p ≡ 0
     unfolding bc_lvl_of
-    level-none e = simp (h, on_none e)
+    level_none e = simp (h, on_none e)
 
     -- ---- COMP
 
     module _ (m : ℕ) (k : has MEAS_VBUS m ≡ false) where
-      pub comp-pin : (v : Millivolts) → r ≡ Pin v → comp_of sw m pwr p ≡ above (cc_reference (bit_and m MDAC)) v.0
+      pub comp_pin : (v : Millivolts) → r ≡ Pin v → comp_of sw m pwr p ≡ above (cc_reference (bit_and m MDAC)) v.0
       unfolding comp_of
-      comp-pin v e = simp (h, k, on-pin v e, or-false)
+      comp_pin v e = simp (h, k, on-pin v e, or-false)
 
-      pub comp-none : r ≡ Nothing → comp_of sw m pwr p ≡ false
+      pub comp_none : r ≡ Nothing → comp_of sw m pwr p ≡ false
       unfolding comp_of
-      comp-none e = simp (h, k, on_none e)
+      comp_none e = simp (h, k, on_none e)
 
 module _ (sw m pwr : ℕ) (p : machine.Pins) where
   pub comp_vbus : has PWR2 pwr ≡ true → has MEAS_VBUS m ≡ true
@@ -71,13 +71,13 @@ module _ (sw m pwr : ℕ) (p : machine.Pins) where
   unfolding comp_of
   comp_vbus h k = simp (h, k)
 
-  pub comp-off : has PWR2 pwr ≡ false → comp_of sw m pwr p ≡ false
+  pub comp_off : has PWR2 pwr ≡ false → comp_of sw m pwr p ≡ false
   unfolding comp_of
-  comp-off h = simp h
+  comp_off h = simp h
 
-  pub level-off : has PWR2 pwr ≡ false → bc_lvl_of sw pwr p ≡ 0
+  pub level_off : has PWR2 pwr ≡ false → bc_lvl_of sw pwr p ≡ 0
   unfolding bc_lvl_of
-  level-off h = simp h
+  level_off h = simp h
 
 -- ---- what is shown, and what has changed of it
 
@@ -110,19 +110,19 @@ sensing d a b c =
     }
 
 module _ (d : Device) (asks : Asks d) (before : List ℕ) where
-  pub sense-small : (x y z : ℕ) → length before < frame_room
+  pub sense_small : (x y z : ℕ) → length before < frame_room
       → Serves (sense (length before) x y z) d before (record { device = d; reply = No 12; count = 0 }) before
-  sense-small x y z h =
-      serves-no (sense (length before) x y z) d before asks 12
-      (sense-checks (view d) (length before) x y z ∙ simp (lt-ltb (length before) frame_room h))
+  sense_small x y z h =
+      serves_no (sense (length before) x y z) d before asks 12
+      (sense_checks (view d) (length before) x y z ∙ simp (lt-ltb (length before) frame_room h))
 
-  pub sense-taken : frame_room ≤ length before → (a b c : Millivolts) → (a.0 < 2 ^ 16) → (b.0 < 2 ^ 16) → (c.0 < 2 ^ 16)
+  pub sense_taken : frame_room ≤ length before → (a b c : Millivolts) → (a.0 < 2 ^ 16) → (b.0 < 2 ^ 16) → (c.0 < 2 ^ 16)
       → (was : Readings) → shown_as was ≡ readings (view d) → (t : Device)
       → Becomes (raises (changes (shown_as was) (readings (view (sensing d a b c)))) (view (sensing d a b c))) t
       → Serves (sense (length before) a.0 b.0 c.0) d before (record { device = t; reply = Done; count = 0 }) before
   unfolding accepted reply_to senses joined
-  sense-taken room a b c p q r was e t h =
-      serves-yes (sense (length before) a.0 b.0 c.0) d before asks
-      (sense-checks (view d) (length before) a.0 b.0 c.0 ∙ simp (le-ltb (length before) frame_room room)) (p, (q, r))
+  sense_taken room a b c p q r was e t h =
+      serves_yes (sense (length before) a.0 b.0 c.0) d before asks
+      (sense_checks (view d) (length before) a.0 b.0 c.0 ∙ simp (le-ltb (length before) frame_room room)) (p, (q, r))
       (record { device = t; reply = Done; count = 0 }) before h.arranged
       (h.state ∙ ap (λ (x : comparators.Readings). raises (changes x (readings (view (sensing d a b c)))) (view (sensing d a b c))) e) refl refl refl

@@ -20,18 +20,18 @@ use Rattle.fusb302.specs.View.{view, Arranged, Asks}
 use Rattle.fusb302.specs.Serves.{replied, overlaid, Serves}
 
 module _ (e : Event) (d : Device) (before : List ℕ) (asks : Asks d) where
-  pub serves-no : (n : ℕ) → refusal (view d) e ≡ some n → Serves e d before (record { device = d; reply = No n; count = 0 }) before
+  pub serves_no : (n : ℕ) → refusal (view d) e ≡ some n → Serves e d before (record { device = d; reply = No n; count = 0 }) before
   unfolding step result_of joined
-  serves-no n h =
+  serves_no n h =
       record { state = rw h refl; asks = asks; reply = rw h refl; count = rw h refl; lent = rw h refl; refused = λ m q. refl }
 
   -- a taken event: the device after it, its reply, and the frames' symbols
   module _ (taken : refusal (view d) e ≡ none) (fits : Fits e) (r : Outcome) (after : List ℕ) (arranged : Arranged r.device) where
-    pub serves-yes : view r.device ≡ (accepted (view d) e).state → replied r.reply ≡ reply_to (view d) e
+    pub serves_yes : view r.device ≡ (accepted (view d) e).state → replied r.reply ≡ reply_to (view d) e
         → r.count ≡ length (joined (accepted (view d) e).frames) → after ≡ overlaid (joined (accepted (view d) e).frames) before
         → Serves e d before r after
     unfolding step result_of
-    serves-yes state reply count lent =
+    serves_yes state reply count lent =
         let is : view r.device ≡ (step (view d) e).state = rw taken state in
         record {
           state = is;

@@ -41,18 +41,18 @@ last_not j k h = go (ltb k sop_kinds)
 -- ---- 40 and 41
 
 module _ (d : Device) (arranged : Arranged d) where
-  pub status0-is : (a b x y : ℕ) (shown : Readings) (full : Bool) → shown_as shown ≡ readings (view d)
+  pub status0_is : (a b x y : ℕ) (shown : Readings) (full : Bool) → shown_as shown ≡ readings (view d)
       → a ≡ flag VBUSOK shown.vbus_ok → b ≡ flag COMP shown.comp → x ≡ flag CRC_CHK d.status.crc_chk
       → full ≡ (eqb d.rx.len rx_room || eqb d.tx.len tx_room) → y ≡ flag ALERT full
       → a + b + x + y + shown.bc_lvl ≡ status0_of (view d)
   unfolding status0_of
-  status0-is a b x y shown full e pa pb px f py =
+  status0_is a b x y shown full e pa pb px f py =
       rw (← e, held_length d.rx arranged.rx, queued_length d.tx arranged.tx, ← f) (omega arith)
 
-  pub status1-is : (k a b c e : ℕ) → k ≡ flag RXSOP2 (last_is (view d) 2) + flag RXSOP1 (last_is (view d) 1)
+  pub status1_is : (k a b c e : ℕ) → k ≡ flag RXSOP2 (last_is (view d) 2) + flag RXSOP1 (last_is (view d) 1)
       → a ≡ flag RX_EMPTY (eqb d.rx.len 0) → b ≡ flag RX_FULL (eqb d.rx.len rx_room)
       → c ≡ flag TX_EMPTY (eqb d.tx.len 0) → e ≡ flag TX_FULL (eqb d.tx.len tx_room)
       → k + a + b + c + e ≡ status1_of (view d)
   unfolding status1_of
-  status1-is k a b c e pk pa pb pc pe =
+  status1_is k a b c e pk pa pb pc pe =
       rw (held_length d.rx arranged.rx, queued_length d.tx arranged.tx) (omega arith)

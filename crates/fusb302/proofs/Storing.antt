@@ -12,13 +12,13 @@ use lib.Seq.{drop-cons, sets, sets-eq, length-take-le, get_or-take, get_or-drop,
 -- ---- a run, its i-th octet to be stored at place
 
 module _ (S T run : List ℕ) (place i : ℕ) where
-  pub store-more : i < length run → sets S place (drop i run) ≡ T
+  pub store_more : i < length run → sets S place (drop i run) ≡ T
       → (x next : ℕ) → x ≡ get_or run i 0 → next ≡ place + 1
       → sets (set S place x) next (drop (i + 1) run) ≡ T
-  store-more h e x next p q = rw (p, q, add-one place, add-one i) (rw (drop-cons run i 0) at e)
+  store_more h e x next p q = rw (p, q, add-one place, add-one i) (rw (drop-cons run i 0) at e)
 
-  pub store-all : length run ≤ i → sets S place (drop i run) ≡ T → S ≡ T
-  store-all h e = rw (drop_of_length-le run) at e
+  pub store_all : length run ≤ i → sets S place (drop i run) ≡ T → S ≡ T
+  store_all h e = rw (drop_of_length-le run) at e
 
 -- what stands up to the run's end
 stored : (l run : List ℕ) (n : ℕ) → n + length run ≤ length l → take (n + length run) (sets l n run) ≡ take n l ++ run
@@ -40,8 +40,8 @@ abbrev pub rest : List ℕ → ℕ → List ℕ
 rest l n = drop 1 (take n l)
 
 module _ (l : List ℕ) (n : ℕ) (h : n ≤ length l) where
-  pub rest-length : length (rest l n) ≡ n - 1
-  rest-length = length-drop 1 (take n l) ∙ rw (length-take-le n l h)
+  pub rest_length : length (rest l n) ≡ n - 1
+  rest_length = length-drop 1 (take n l) ∙ rw (length-take-le n l h)
 
   module _ (S : List ℕ) (i : ℕ) (e : drop i S ≡ drop i l) where
     -- the octet that is moved down, and those above it
@@ -52,7 +52,7 @@ module _ (l : List ℕ) (n : ℕ) (h : n ≤ length l) where
     pub above : (x : ℕ) → drop (i + 1) (set S i x) ≡ drop (i + 1) l
     above x = rw (drop-set-lt (i + 1) S i x (omega arith), ← drop-drop 1 i S, e, drop-drop 1 i l)
 
-  pub all-but-first : (S : List ℕ) → S ≡ sets l 0 (rest l n) → take (n - 1) S ≡ rest l n
-  all-but-first S e =
-      let q : n - 1 ≡ 0 + length (rest l n) = omega (arith, rest-length) in
-      rw (q, e) (stored l (rest l n) 0 (omega (arith, rest-length)))
+  pub all_but_first : (S : List ℕ) → S ≡ sets l 0 (rest l n) → take (n - 1) S ≡ rest l n
+  all_but_first S e =
+      let q : n - 1 ≡ 0 + length (rest l n) = omega (arith, rest_length) in
+      rw (q, e) (stored l (rest l n) 0 (omega (arith, rest_length)))

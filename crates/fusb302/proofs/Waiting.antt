@@ -33,7 +33,7 @@ use Rattle.machine.specs.Requests.{
 }
 use Rattle.machine.specs.Events.{pass}
 use Rattle.machine.specs.Step.{accepted, reply_to}
-use Rattle.machine.proofs.Checking.{pass-checks}
+use Rattle.machine.proofs.Checking.{pass_checks}
 use Rattle.fusb302.specs.declared.queue.Queue.{Queue}
 use Rattle.fusb302.specs.declared.queue.Message.{Message}
 use Rattle.fusb302.specs.declared.queue.Message.TheVariants.{Spelt, Nothing}
@@ -44,9 +44,9 @@ use Rattle.fusb302.specs.declared.device.Outcome.{Outcome}
 use Rattle.fusb302.specs.Queued.{queued, spelt_as}
 use Rattle.fusb302.specs.View.{phase_of, asked, request_of, view, Arranged, Asks}
 use Rattle.fusb302.specs.Serves.{replied, if_any, Becomes, Sends, Does, Serves}
-use Rattle.fusb302.proofs.Serving.{serves-no, serves-yes}
-use Rattle.fusb302.proofs.Sending.{by_count, spelt-kind}
-use Rattle.fusb302.proofs.Becoming.{done, itself, and_then, silently, sending, if-sending}
+use Rattle.fusb302.proofs.Serving.{serves_no, serves_yes}
+use Rattle.fusb302.proofs.Sending.{by_count, spelt_kind}
+use Rattle.fusb302.proofs.Becoming.{done, itself, and_then, silently, sending, if_sending}
 
 -- ---- the phase of a request
 
@@ -72,26 +72,26 @@ module _ (s : State) (t : Device) (is : Becomes s t) (q r : Request) (x : machin
 
 module _ (d t : Device) (before : List ℕ) where
   module _ (failed : Becomes (raises_a I_SOFTFAIL (shows SOFTFAIL (over (view d)))) t) where
-    pub soft-ends : d.request.hard ≡ false → Does (soft_fails (asked d.request) (view d)) before (done t 0) before
+    pub soft_ends : d.request.hard ≡ false → Does (soft_fails (asked d.request) (view d)) before (done t 0) before
     unfolding soft_fails
-    soft-ends e = rw e (silently _ t failed before)
+    soft_ends e = rw e (silently _ t failed before)
 
-    pub soft-hard : d.request.hard ≡ true → (u : Device) → Becomes (raises_a I_HARDSENT (view t)) u → (n : ℕ) (after : List ℕ)
+    pub soft_hard : d.request.hard ≡ true → (u : Device) → Becomes (raises_a I_HARDSENT (view t)) u → (n : ℕ) (after : List ℕ)
         → Sends (hard_reset_frame ∷ []) before n after → Does (soft_fails (asked d.request) (view d)) before (done u n) after
     unfolding soft_fails
-    soft-hard e u h n after sent = rw e (sending _ u (and_then _ t failed (raises_a I_HARDSENT) u h) before n after hard_reset_frame sent)
+    soft_hard e u h n after sent = rw e (sending _ u (and_then _ t failed (raises_a I_HARDSENT) u h) before n after hard_reset_frame sent)
 
   module _ (w : ℕ) (failed : Becomes (raises_a I_RETRYFAIL (shows RETRYFAIL (over (view d)))) t) where
-    pub message-ends : d.request.soft ≡ false → Does (message_fails w (asked d.request) (view d)) before (done t 0) before
+    pub message_ends : d.request.soft ≡ false → Does (message_fails w (asked d.request) (view d)) before (done t 0) before
     unfolding message_fails
-    message-ends e = rw e (silently _ t failed before)
+    message_ends e = rw e (silently _ t failed before)
 
     -- as the machine's Soft_Reset goes on from there
-    pub message-soft : d.request.soft ≡ true → (r : Outcome) (after : List ℕ)
+    pub message_soft : d.request.soft ≡ true → (r : Outcome) (after : List ℕ)
         → Does (soft_reset_follows w (asked d.request) (spelt (queued d.tx)) (view t)) before r after
         → Does (message_fails w (asked d.request) (view d)) before r after
     unfolding message_fails
-    message-soft e r after h =
+    message_soft e r after h =
         let on = subst (λ (s : State). Does (soft_reset_follows w (asked d.request) (spelt (queued d.tx)) s) before r after) failed.state h in
         let over-now = raises_a I_RETRYFAIL (shows RETRYFAIL (over (view d))) in
         let x = soft_reset_follows w (asked d.request) (spelt (queued d.tx)) over-now in
@@ -110,7 +110,7 @@ module _ (d : Device) (arranged : Arranged d) (tx : Queue) (q : Request) (w : �
         → (u : Device) → Becomes (with_request (request_of r) (view d)) u → (c : ℕ) (after : List ℕ)
         → Sends (soft_reset_of k (asked q) ∷ []) before c after → Does (soft_reset_follows w (asked q) (spelt (queued tx)) (view d)) before (done u c) after
     follows_on active r goes u h c after sent =
-        let phase = phase_reset k (spelt-kind tx m is k n e) in
+        let phase = phase_reset k (spelt_kind tx m is k n e) in
         let now : (r.active ≡ q.active) × (asked r ≡ goes_on (soft_reset k) 0 w (asked q)) = (goes.0, goes.1 ∙ ap (λ (p : Phase). goes_on p 0 w (asked q)) phase) in
         rw (by_count tx m is k n e)
         (sending _ u (goes_on (view d) d (itself d arranged) q r _ active now u h) before c after (soft_reset_of k (asked q)) sent)
@@ -118,23 +118,23 @@ module _ (d : Device) (arranged : Arranged d) (tx : Queue) (q : Request) (w : �
 -- ---- a wait that ran out
 
 module _ (d : Device) (w : ℕ) (before : List ℕ) where
-  pub expires-again : Arranged d → d.request.active ≡ true → d.request.sent < d.request.retries → (q : Request)
+  pub expires_again : Arranged d → d.request.active ≡ true → d.request.sent < d.request.retries → (q : Request)
       → (q.active ≡ d.request.active) × (asked q ≡ goes_on (phase_of d.request.resetting) (d.request.sent + 1) w (asked d.request))
       → (u : Device) → Becomes (with_request (request_of q) (view d)) u → (n : ℕ) (after : List ℕ)
       → Sends (if_any (flight_in (phase_of d.request.resetting) (asked d.request) (queued d.tx))) before n after
       → Does (expires w (asked d.request) (view d)) before (done u n) after
   unfolding expires
-  expires-again arranged active h q goes u x n after sent =
+  expires_again arranged active h q goes u x n after sent =
       rw (lt-ltb d.request.sent d.request.retries h, ← add-one d.request.sent)
-      (if-sending _ u (goes_on (view d) d (itself d arranged) d.request q _ active goes u x) before n after
+      (if_sending _ u (goes_on (view d) d (itself d arranged) d.request q _ active goes u x) before n after
       (flight (view d) (asked d.request)) sent)
 
   -- what was in flight failed
-  pub expires-last : (r : Outcome) (after : List ℕ) → d.request.retries ≤ d.request.sent → (p : Phase)
+  pub expires_last : (r : Outcome) (after : List ℕ) → d.request.retries ≤ d.request.sent → (p : Phase)
       → phase_of d.request.resetting ≡ p → Does (fails p w (asked d.request) (view d)) before r after
       → Does (expires w (asked d.request) (view d)) before r after
   unfolding expires
-  expires-last r after last p e h =
+  expires_last r after last p e h =
       rw (
         le-ltb d.request.sent d.request.retries last,
         ap (λ (x : Phase). fails x w (asked d.request) (view d)) e,
@@ -144,15 +144,15 @@ module _ (d : Device) (w : ℕ) (before : List ℕ) where
 -- ---- time that passes
 
 module _ (d : Device) (asks : Asks d) (before : List ℕ) (us : ℕ) where
-  pub pass-small : length before < frame_room → Serves (pass (length before) us) d before (record { device = d; reply = No 12; count = 0 }) before
-  pass-small h =
-      serves-no (pass (length before) us) d before asks 12 (pass-checks (view d) (length before) us ∙ simp (lt-ltb (length before) frame_room h))
+  pub pass_small : length before < frame_room → Serves (pass (length before) us) d before (record { device = d; reply = No 12; count = 0 }) before
+  pass_small h =
+      serves_no (pass (length before) us) d before asks 12 (pass_checks (view d) (length before) us ∙ simp (lt-ltb (length before) frame_room h))
 
   module _ (room : frame_room ≤ length before) where
-    pub pass-long : 1000 < us → Serves (pass (length before) us) d before (record { device = d; reply = No 10; count = 0 }) before
-    pass-long h =
-        serves-no (pass (length before) us) d before asks 10
-        (pass-checks (view d) (length before) us ∙ simp (le-ltb (length before) frame_room room, lt-ltb 1000 us h))
+    pub pass_long : 1000 < us → Serves (pass (length before) us) d before (record { device = d; reply = No 10; count = 0 }) before
+    pass_long h =
+        serves_no (pass (length before) us) d before asks 10
+        (pass_checks (view d) (length before) us ∙ simp (le-ltb (length before) frame_room room, lt-ltb 1000 us h))
 
     module _ (short : us ≤ 1000) where
       passed : (o : Option machine.Request) → request_of d.request ≡ o → (r : Outcome) (after : List ℕ)
@@ -160,32 +160,32 @@ module _ (d : Device) (asks : Asks d) (before : List ℕ) (us : ℕ) where
       unfolding accepted reply_to
       passed o is r after x =
           let h = subst (λ q. Does (passes us q (view d)) before r after) (sym is) x in
-          serves-yes (pass (length before) us) d before asks
-          (pass-checks (view d) (length before) us ∙ simp (le-ltb (length before) frame_room room, le-ltb 1000 us short)) (omega arith)
+          serves_yes (pass (length before) us) d before asks
+          (pass_checks (view d) (length before) us ∙ simp (le-ltb (length before) frame_room room, le-ltb 1000 us short)) (omega arith)
           r after h.arranged h.state (ap replied h.reply) h.sends.count h.sends.lent
 
-      pub pass-idle : d.request.active ≡ false → Serves (pass (length before) us) d before (record { device = d; reply = Done; count = 0 }) before
+      pub pass_idle : d.request.active ≡ false → Serves (pass (length before) us) d before (record { device = d; reply = Done; count = 0 }) before
       unfolding passes
-      pass-idle e =
+      pass_idle e =
           passed none (rw e refl) _ before (silently _ d (itself d asks.arranged) before)
 
       module _ (active : d.request.active ≡ true) where
         is : request_of d.request ≡ some (asked d.request)
         is = rw active refl
 
-        pub pass-waits : d.request.waited + us < 1000 → (q : Request)
+        pub pass_waits : d.request.waited + us < 1000 → (q : Request)
             → (q.active ≡ d.request.active)
             × (asked q ≡ goes_on (phase_of d.request.resetting) d.request.sent (d.request.waited + us) (asked d.request))
             → (u : Device) → Becomes (with_request (request_of q) (view d)) u → Serves (pass (length before) us) d before (done u 0) before
         unfolding passes elapses
-        pass-waits h q goes u x =
+        pass_waits h q goes u x =
             passed _ is _ before
             (rw (lt-ltb (d.request.waited + us) 1000 h)
             (silently _ u (goes_on (view d) d (itself d asks.arranged) d.request q _ active goes u x) before))
 
-        pub pass-expires : 1000 ≤ d.request.waited + us → (r : Outcome) (after : List ℕ)
+        pub pass_expires : 1000 ≤ d.request.waited + us → (r : Outcome) (after : List ℕ)
             → Does (expires (d.request.waited + us - 1000) (asked d.request) (view d)) before r after
             → Serves (pass (length before) us) d before r after
         unfolding passes elapses
-        pass-expires h r after x =
+        pass_expires h r after x =
             passed _ is r after (rw (le-ltb (d.request.waited + us) 1000 h) x)

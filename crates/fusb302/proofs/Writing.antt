@@ -53,7 +53,7 @@ use Rattle.machine.specs.Step.{
   accepted,
   reply_to,
 }
-use Rattle.machine.proofs.Checking.{write-checks}
+use Rattle.machine.proofs.Checking.{write_checks}
 use Rattle.machine.proofs.Comparing.{port_written_lem, control0_written_lem, control1_written_lem, control3_written_lem, reset_written_lem}
 use Rattle.fusb302.specs.declared.queue.Queue.{Queue}
 use Rattle.fusb302.specs.declared.fifo.Fifo.{Fifo}
@@ -68,10 +68,10 @@ use Rattle.fusb302.specs.declared.pins.Readings.{Readings}
 use Rattle.fusb302.specs.Sensed.{pins_of, shown_as}
 use Rattle.fusb302.specs.View.{request_of, status_of, view, Arranged, Asks, PoweredUp}
 use Rattle.fusb302.specs.Serves.{if_any, replied, Becomes, Sends, Does, DoesQuietly, Serves, Refuses}
-use Rattle.fusb302.proofs.Serving.{serves-no, serves-yes}
-use Rattle.fusb302.proofs.Becoming.{done, itself, and_then, hushed, silently, sending, if-sending}
+use Rattle.fusb302.proofs.Serving.{serves_no, serves_yes}
+use Rattle.fusb302.proofs.Becoming.{done, itself, and_then, hushed, silently, sending, if_sending}
 use Rattle.fusb302.proofs.Showing.{queued_length}
-use Rattle.fusb302.proofs.Refusing.{port-start-is}
+use Rattle.fusb302.proofs.Refusing.{port_start_is}
 
 pub quiet_does : (x : Effect) (r : Outcome) → DoesQuietly x r → (before : List ℕ) → Does x before r before
 unfolding joined
@@ -107,21 +107,21 @@ pub begins : (d : Device) (retries : ℕ) (soft hard : Bool) → retries ≡ ret
 unfolding start latched cell
 begins d retries soft hard p q r a b x y n before after h =
     rw (← p, ← q, ← r)
-    (if-sending _ b (and_then _ a x (with_request (request_of (latching d retries soft hard))) b y) before n after (spelt (queued d.tx)) h)
+    (if_sending _ b (and_then _ a x (with_request (request_of (latching d retries soft hard))) b y) before n after (spelt (queued d.tx)) h)
 
 -- ---- the port
 
 module _ (d : Device) (arranged : Arranged d) (v : ℕ) where
   module _ (before : List ℕ) where
-    pub port-begins : (eqb d.tx.left 0 && eqb v START) ≡ true → (r : Outcome) (after : List ℕ)
+    pub port_begins : (eqb d.tx.left 0 && eqb v START) ≡ true → (r : Outcome) (after : List ℕ)
         → Does (start (view d)) before r after → Does (port_written v (view d)) before r after
     unfolding port_written
-    port-begins h r after x = rw (port-start-is d arranged v ∙ h) x
+    port_begins h r after x = rw (port_start_is d arranged v ∙ h) x
 
-    pub port-queues : (eqb d.tx.left 0 && eqb v START) ≡ false → (t : Device) → Becomes (queues v (view d)) t
+    pub port_queues : (eqb d.tx.left 0 && eqb v START) ≡ false → (t : Device) → Becomes (queues v (view d)) t
         → Does (port_written v (view d)) before (done t 0) before
     unfolding port_written
-    port-queues h t x = rw (port-start-is d arranged v ∙ h) (silently _ t x before)
+    port_queues h t x = rw (port_start_is d arranged v ∙ h) (silently _ t x before)
 
   -- an octet more in the queue
   module _ (q : Queue) (more : Kept q × (queued q ≡ queued d.tx ++ (v ∷ []))) where
@@ -134,61 +134,61 @@ module _ (d : Device) (arranged : Arranged d) (v : ℕ) where
     counted : length (queued d.tx ++ (v ∷ [])) ≡ q.len
     counted = sym (ap length more.1) ∙ queued_length q more.0
 
-    pub queue-on : (q.len ≡ tx_room → ⊥) → Becomes (queues v (view d)) longer
+    pub queue_on : (q.len ≡ tx_room → ⊥) → Becomes (queues v (view d)) longer
     unfolding queues
-    queue-on h = rw (counted, ne_eqb q.len tx_room h) is-longer
+    queue_on h = rw (counted, ne_eqb q.len tx_room h) is-longer
 
-    pub queue-full : q.len ≡ tx_room → (u : Device) → Becomes (raises I_ALERT (view longer)) u → Becomes (queues v (view d)) u
+    pub queue_full : q.len ≡ tx_room → (u : Device) → Becomes (raises I_ALERT (view longer)) u → Becomes (queues v (view d)) u
     unfolding queues
-    queue-full h u x = rw (counted, eq-eqb q.len tx_room h) (and_then _ longer is-longer (raises I_ALERT) u x)
+    queue_full h u x = rw (counted, eq-eqb q.len tx_room h) (and_then _ longer is-longer (raises I_ALERT) u x)
 
 -- ---- Control0
 
 module _ (d : Device) (v : ℕ) (before : List ℕ) where
-  pub control0-begins : has TX_START v ≡ true → has TX_FLUSH v ≡ false → (r : Outcome) (after : List ℕ)
+  pub control0_begins : has TX_START v ≡ true → has TX_FLUSH v ≡ false → (r : Outcome) (after : List ℕ)
       → Does (start (view d)) before r after → Does (control0_written v (view d)) before r after
   unfolding control0_written
-  control0-begins h k r after x = rw (k, h) x
+  control0_begins h k r after x = rw (k, h) x
 
   module _ (h : has TX_START v ≡ false) where
-    pub control0-flushes : has TX_FLUSH v ≡ true → (t : Device) → Becomes (over (view d)) t
+    pub control0_flushes : has TX_FLUSH v ≡ true → (t : Device) → Becomes (over (view d)) t
         → Does (control0_written v (view d)) before (done t 0) before
     unfolding control0_written
-    control0-flushes k t x = rw (k, h) (silently _ t x before)
+    control0_flushes k t x = rw (k, h) (silently _ t x before)
 
-    pub control0-rests : has TX_FLUSH v ≡ false → Arranged d → Does (control0_written v (view d)) before (done d 0) before
+    pub control0_rests : has TX_FLUSH v ≡ false → Arranged d → Does (control0_written v (view d)) before (done d 0) before
     unfolding control0_written
-    control0-rests k arranged = rw (k, h) (silently _ d (itself d arranged) before)
+    control0_rests k arranged = rw (k, h) (silently _ d (itself d arranged) before)
 
 -- ---- Control1
 
 module _ (d : Device) (arranged : Arranged d) (v : ℕ) where
-  pub control1-flushes : has RX_FLUSH v ≡ true → (f : Fifo) → Sound f → held f ≡ []
+  pub control1_flushes : has RX_FLUSH v ≡ true → (f : Fifo) → Sound f → held f ≡ []
       → DoesQuietly (control1_written v (view d))
       (done (record { cells = d.cells; tx = d.tx; rx = f; status = d.status; ints = d.ints; request = d.request; pins = d.pins }) 0)
   unfolding control1_written
-  control1-flushes h f sound e =
+  control1_flushes h f sound e =
       rw h
       (hushed _ _ (record { state = rw e refl; arranged = record { cells = arranged.cells; tx = arranged.tx; rx = sound } }))
 
-  pub control1-rests : has RX_FLUSH v ≡ false → DoesQuietly (control1_written v (view d)) (done d 0)
+  pub control1_rests : has RX_FLUSH v ≡ false → DoesQuietly (control1_written v (view d)) (done d 0)
   unfolding control1_written
-  control1-rests h = rw h (hushed _ d (itself d arranged))
+  control1_rests h = rw h (hushed _ d (itself d arranged))
 
 -- ---- Control3
 
 module _ (d : Device) (v : ℕ) (before : List ℕ) where
-  pub control3-sends : has SEND_HARD_RESET v ≡ true → (a b c : Device) → Becomes (over (view d)) a → Becomes (hides fail_bits (view a)) b
+  pub control3_sends : has SEND_HARD_RESET v ≡ true → (a b c : Device) → Becomes (over (view d)) a → Becomes (hides fail_bits (view a)) b
       → Becomes (raises_a I_HARDSENT (view b)) c → (n : ℕ) (after : List ℕ) → Sends (hard_reset_frame ∷ []) before n after
       → Does (control3_written v (view d)) before (done c n) after
   unfolding control3_written send_hard_reset
-  control3-sends h a b c x y z n after sent =
+  control3_sends h a b c x y z n after sent =
       rw h
       (sending _ c (and_then _ b (and_then _ a x (hides fail_bits) b y) (raises_a I_HARDSENT) c z) before n after hard_reset_frame sent)
 
-  pub control3-rests : has SEND_HARD_RESET v ≡ false → Arranged d → Does (control3_written v (view d)) before (done d 0) before
+  pub control3_rests : has SEND_HARD_RESET v ≡ false → Arranged d → Does (control3_written v (view d)) before (done d 0) before
   unfolding control3_written
-  control3-rests h arranged = rw h (silently _ d (itself d arranged) before)
+  control3_rests h arranged = rw h (silently _ d (itself d arranged) before)
 
 -- ---- Reset
 
@@ -215,18 +215,18 @@ restores d a p =
     }
 
 module _ (d : Device) (v : ℕ) where
-  pub reset-restores : has SW_RES v ≡ true → (t : Device) → Becomes (restored (view d)) t → DoesQuietly (reset_written v (view d)) (done t 0)
+  pub reset_restores : has SW_RES v ≡ true → (t : Device) → Becomes (restored (view d)) t → DoesQuietly (reset_written v (view d)) (done t 0)
   unfolding reset_written
-  reset-restores h t x = rw h (hushed _ t x)
+  reset_restores h t x = rw h (hushed _ t x)
 
   module _ (h : has SW_RES v ≡ false) where
-    pub reset-clears : has PD_RESET v ≡ true → (t : Device) → Becomes (pd_reset (view d)) t → DoesQuietly (reset_written v (view d)) (done t 0)
+    pub reset_clears : has PD_RESET v ≡ true → (t : Device) → Becomes (pd_reset (view d)) t → DoesQuietly (reset_written v (view d)) (done t 0)
     unfolding reset_written
-    reset-clears k t x = rw (h, k) (hushed _ t x)
+    reset_clears k t x = rw (h, k) (hushed _ t x)
 
-    pub reset-rests : has PD_RESET v ≡ false → Arranged d → DoesQuietly (reset_written v (view d)) (done d 0)
+    pub reset_rests : has PD_RESET v ≡ false → Arranged d → DoesQuietly (reset_written v (view d)) (done d 0)
     unfolding reset_written
-    reset-rests k arranged = rw (h, k) (hushed _ d (itself d arranged))
+    reset_rests k arranged = rw (h, k) (hushed _ d (itself d arranged))
 
 -- ---- a register is stored, and then commands
 
@@ -244,29 +244,29 @@ stored_is d a v m e = rw e refl
 
 -- an effect of a write, on the device with its register stored
 module _ (d : Device) (a v : ℕ) (before : List ℕ) (r : Outcome) (after : List ℕ) where
-  pub written-port : a ≡ fifos → Does (port_written v (view d)) before r after → Does (written a v (view d)) before r after
-  written-port e x = rw (e, port_written_lem v (view d)) x
+  pub written_port : a ≡ fifos → Does (port_written v (view d)) before r after → Does (written a v (view d)) before r after
+  written_port e x = rw (e, port_written_lem v (view d)) x
 
   module _ (m : ℕ) (masked : m ≡ get_or stored_bits (a - 2) 0) where
     abbrev then : Device
     then = storing d (a - 2) (bit_and v m)
 
-    pub written-by : (f : State → Effect) → written a v (view d) ≡ f (with_cells (stored a v d.cells) (view d))
+    pub written_by : (f : State → Effect) → written a v (view d) ≡ f (with_cells (stored a v d.cells) (view d))
         → Does (f (view then)) before r after → Does (written a v (view d)) before r after
-    written-by f e x = rw (e, stored_is d a v m masked) x
+    written_by f e x = rw (e, stored_is d a v m masked) x
 
 module _ (a v : ℕ) (s : State) where
-  pub is-control0 : a ≡ control0 → written a v s ≡ control0_written v (with_cells (stored a v s.cells) s)
-  is-control0 e = rw e (control0_written_lem v s)
+  pub is_control0 : a ≡ control0 → written a v s ≡ control0_written v (with_cells (stored a v s.cells) s)
+  is_control0 e = rw e (control0_written_lem v s)
 
-  pub is-control1 : a ≡ control1 → written a v s ≡ control1_written v (with_cells (stored a v s.cells) s)
-  is-control1 e = rw e (control1_written_lem v s)
+  pub is_control1 : a ≡ control1 → written a v s ≡ control1_written v (with_cells (stored a v s.cells) s)
+  is_control1 e = rw e (control1_written_lem v s)
 
-  pub is-control3 : a ≡ control3 → written a v s ≡ control3_written v (with_cells (stored a v s.cells) s)
-  is-control3 e = rw e (control3_written_lem v s)
+  pub is_control3 : a ≡ control3 → written a v s ≡ control3_written v (with_cells (stored a v s.cells) s)
+  is_control3 e = rw e (control3_written_lem v s)
 
-  pub is-reset : a ≡ reset → written a v s ≡ reset_written v (with_cells (stored a v s.cells) s)
-  is-reset e = rw e (reset_written_lem v s)
+  pub is_reset : a ≡ reset → written a v s ≡ reset_written v (with_cells (stored a v s.cells) s)
+  is_reset e = rw e (reset_written_lem v s)
 
   -- a register with no command, which the comparators may read
   pub is_plain : (a ≡ fifos → ⊥) → (a ≡ control0 → ⊥) → (a ≡ control1 → ⊥) → (a ≡ control3 → ⊥) → (a ≡ reset → ⊥)
@@ -279,12 +279,12 @@ module _ (d : Device) (a v : ℕ) (m : ℕ) (masked : m ≡ get_or stored_bits (
   abbrev plain : Device
   plain = storing d (a - 2) (bit_and v m)
 
-  pub written-plain : (a ≡ fifos → ⊥) → (a ≡ control0 → ⊥) → (a ≡ control1 → ⊥) → (a ≡ control3 → ⊥) → (a ≡ reset → ⊥)
+  pub written_plain : (a ≡ fifos → ⊥) → (a ≡ control0 → ⊥) → (a ≡ control1 → ⊥) → (a ≡ control3 → ⊥) → (a ≡ reset → ⊥)
       → (was : Readings) → shown_as was ≡ readings (view d) → (t : Device)
       → Becomes (raises (changes (shown_as was) (readings (view plain))) (view plain)) t → (before : List ℕ)
       → Does (written a v (view d)) before (done t 0) before
-  written-plain h p q r s was e t x before =
-      written-by d a v before (done t 0) before m masked (λ (u : State). silent (reports (view d) u)) (is_plain a v (view d) h p q r s)
+  written_plain h p q r s was e t x before =
+      written_by d a v before (done t 0) before m masked (λ (u : State). silent (reports (view d) u)) (is_plain a v (view d) h p q r s)
       (silently _ t
       (record {
         state = x.state ∙ ap (λ (y : comparators.Readings). raises (changes y (readings (view plain))) (view plain)) e;
@@ -295,20 +295,20 @@ module _ (d : Device) (a v : ℕ) (m : ℕ) (masked : m ≡ get_or stored_bits (
 -- ---- the whole
 
 module _ (d : Device) (asks : Asks d) (before : List ℕ) (a v : ℕ) where
-  pub write-small : length before < frame_room → Serves (write (length before) a v) d before (record { device = d; reply = No 12; count = 0 }) before
-  write-small h =
-      serves-no (write (length before) a v) d before asks 12
-      (write-checks (view d) (length before) a v ∙ simp (lt-ltb (length before) frame_room h))
+  pub write_small : length before < frame_room → Serves (write (length before) a v) d before (record { device = d; reply = No 12; count = 0 }) before
+  write_small h =
+      serves_no (write (length before) a v) d before asks 12
+      (write_checks (view d) (length before) a v ∙ simp (lt-ltb (length before) frame_room h))
 
   module _ (room : frame_room ≤ length before) where
-    pub write-refused : (n : ℕ) → (n ≡ 0 → ⊥) → Refuses (view d) a v n
+    pub write_refused : (n : ℕ) → (n ≡ 0 → ⊥) → Refuses (view d) a v n
         → Serves (write (length before) a v) d before (record { device = d; reply = No n; count = 0 }) before
-    write-refused zero h x = absurd (h refl)
-    write-refused (suc n) h x = serves-no (write (length before) a v) d before asks (suc n) (x.is (length before) room)
+    write_refused zero h x = absurd (h refl)
+    write_refused (suc n) h x = serves_no (write (length before) a v) d before asks (suc n) (x.is (length before) room)
 
-    pub write-taken : Refuses (view d) a v 0 → a < 256 → v < 256 → (r : Outcome) (after : List ℕ)
+    pub write_taken_lem : Refuses (view d) a v 0 → a < 256 → v < 256 → (r : Outcome) (after : List ℕ)
         → Does (written a v (view d)) before r after → Serves (write (length before) a v) d before r after
     unfolding accepted reply_to
-    write-taken x p q r after y =
-        serves-yes (write (length before) a v) d before asks (x.is (length before) room) (p, q) r after y.arranged
+    write_taken_lem x p q r after y =
+        serves_yes (write (length before) a v) d before asks (x.is (length before) room) (p, q) r after y.arranged
         y.state (ap replied y.reply) y.sends.count y.sends.lent

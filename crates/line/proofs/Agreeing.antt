@@ -145,8 +145,8 @@ module _ (l : List ℕ) (long : 4 ≤ length l) (k : ℕ) (h : k < kinds) where
       let w = r.within in
       record { kind = h; wrong = r.wrong; within = omega arith; differs = r.differs; agrees = λ i b. r.agrees i (omega arith) }
 
-  pub three-is : InThree l k → agree (set_of k) l ≡ 3
-  three-is r =
+  pub three_is : InThree l k → agree (set_of k) l ≡ 3
+  three_is r =
       let n = set_length k h in
       let w = r.within in
       omega (arith, less_one (set_of k) l (omega arith) (record { wrong = r.wrong; within = omega arith; differs = r.differs; agrees = λ i b. r.agrees i (omega arith) }))
@@ -228,14 +228,14 @@ module _ (l : List ℕ) (long : 4 ≤ length l) where
 
   three-near : (j : ℕ) → InThree l j → In j near
   unfolding near set_of
-  three-near j t = rw zero-add at (agrees_in 0 ordered_sets l j t.kind (three-is l long j t.kind t))
+  three-near j t = rw zero-add at (agrees_in 0 ordered_sets l j t.kind (three_is l long j t.kind t))
 
   -- by what the list of them is
-  none-near : near ≡ [] → (j : ℕ) → InThree l j → ⊥
-  none-near e j t = subst (In j) e (three-near j t)
+  none_near : near ≡ [] → (j : ℕ) → InThree l j → ⊥
+  none_near e j t = subst (In j) e (three-near j t)
 
-  one-near : (k : ℕ) → near ≡ k ∷ [] → InThree l k × ((j : ℕ) → InThree l j → j ≡ k)
-  one-near k e = (near-three k (subst (In k) (sym e) (inl refl)), λ j t. only (subst (In j) e (three-near j t)))
+  one_near : (k : ℕ) → near ≡ k ∷ [] → InThree l k × ((j : ℕ) → InThree l j → j ≡ k)
+  one_near k e = (near-three k (subst (In k) (sym e) (inl refl)), λ j t. only (subst (In j) e (three-near j t)))
     where
       only : {j : ℕ} → In j (k ∷ []) → j ≡ k
       only (inl q) = q
@@ -255,21 +255,21 @@ module _ (l : List ℕ) (long : 4 ≤ length l) where
       }
 
   -- a kind that agrees in three places is the nearest, or one of several
-  pub three-or : (k : ℕ) → InThree l k → ((j : ℕ) → Exactly l j → ⊥) → Nearly l k ⊎ Doubtful l
-  three-or k t inexact = go near refl
+  pub three_or : (k : ℕ) → InThree l k → ((j : ℕ) → Exactly l j → ⊥) → Nearly l k ⊎ Doubtful l
+  three_or k t inexact = go near refl
     where
       go : (ks : List ℕ) → near ≡ ks → Nearly l k ⊎ Doubtful l
-      go [] e = absurd (none-near e k t)
+      go [] e = absurd (none_near e k t)
       go (i ∷ []) e =
-          let o = one-near i e in
+          let o = one_near i e in
           let same = o.1 k t in
           inl (record { four = long; none = inexact; three = t; single = λ j u. o.1 j u ∙ sym same })
       go (i ∷ j ∷ ks) e = inr (several-near i j ks e)
 
   -- several that agree, counted
-  pub counted-doubtful : 2 ≤ length (agreeing 0 ordered_sets l) → Doubtful l
+  pub counted_doubtful : 2 ≤ length (agreeing 0 ordered_sets l) → Doubtful l
   unfolding near
-  counted-doubtful h = go near refl h
+  counted_doubtful h = go near refl h
     where
       go : (ks : List ℕ) → near ≡ ks → 2 ≤ length ks → Doubtful l
       go [] e h = absurd (omega arith)
@@ -314,9 +314,9 @@ module _ (l : List ℕ) (long : 4 ≤ length l) where
 
     near-means : (ks : List ℕ) → near l long ≡ ks → SetMeans l (single ks)
     unfolding single
-    near-means [] e = (untaken (λ k t. none-near l long e k t.three), refl)
+    near-means [] e = (untaken (λ k t. none_near l long e k t.three), refl)
     near-means (k ∷ []) e =
-        let o = one-near l long k e in
+        let o = one_near l long k e in
         record { four = long; none = inexact; three = o.0; single = o.1 }
     near-means (i ∷ j ∷ ks) e =
         let d = several-near l long i j ks e in
@@ -343,20 +343,20 @@ one_taken l j k false false a b = (b.single j a.three, refl)
 
 -- so each has one answer
 module _ (l : List ℕ) where
-  pub taken-set : (k : ℕ) (exact : Bool) → TakenAs l k exact → set_at l ≡ found (record { kind = k; exact = exact })
-  taken-set k exact t = go (set_at l) (set_means l)
+  pub taken_set : (k : ℕ) (exact : Bool) → TakenAs l k exact → set_at l ≡ found (record { kind = k; exact = exact })
+  taken_set k exact t = go (set_at l) (set_means l)
     where
       go : (r : Look TakenSet) → SetMeans l r → r ≡ found (record { kind = k; exact = exact })
       go (found s) m = let o = one_taken l s.kind k s.exact exact m t in λ i. found (record { kind = o.0 i; exact = o.1 i })
       go (short p) m = let h = m.0 in absurd (omega (arith, taken_long l k exact t))
       go (misfit p) m = absurd (m.0.none k exact t)
 
-  pub short-set : length l < 4 → set_at l ≡ short (length l)
+  pub short_set : length l < 4 → set_at l ≡ short (length l)
   unfolding set_at
-  short-set h = simp (lt-ltb (length l) 4 h)
+  short_set h = simp (lt-ltb (length l) 4 h)
 
-  pub untaken-set : Untaken l → set_at l ≡ misfit 0
-  untaken-set u = go (set_at l) (set_means l)
+  pub untaken_set : Untaken l → set_at l ≡ misfit 0
+  untaken_set u = go (set_at l) (set_means l)
     where
       go : (r : Look TakenSet) → SetMeans l r → r ≡ misfit 0
       go (found s) m = absurd (u.none s.kind s.exact m)

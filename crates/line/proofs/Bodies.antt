@@ -200,9 +200,9 @@ module _ (l : List ℕ) where
   at-end h true e = stands h e
   at-end h false e = ends h e
 
-  pub body-says : Says Sized body l (body_at l)
+  pub body_says : Says Sized body l (body_at l)
   unfolding body_at end_or count
-  body-says = go (eqb count (length l)) refl
+  body_says = go (eqb count (length l)) refl
     where
       go : (b : Bool) → eqb count (length l) ≡ b
           → Says Sized body l (cond b (short count) (cond (may_end count (get_or l count 0)) (found (octets_of (take count l))) (misfit count)))

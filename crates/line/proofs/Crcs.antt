@@ -100,21 +100,21 @@ module _ (l : List ℕ) where
   seam : length l ≡ length (with_crc l) - 4
   seam = omega (arith, length_crc l)
 
-  pub payload-back : payload (with_crc l) ≡ l
+  pub payload_back : payload (with_crc l) ≡ l
   unfolding payload with_crc
-  payload-back = take_at l (four_octets (crc_of l)) _ seam
+  payload_back = take_at l (four_octets (crc_of l)) _ seam
 
   crc-lt : crc_of l < 4294967296
   unfolding crc_of
   crc-lt = omega arith
 
-  pub crc-right : crc_right (with_crc l) ≡ true
+  pub crc_right_lem : crc_right (with_crc l) ≡ true
   unfolding crc_right payload with_crc
-  crc-right =
+  crc_right_lem =
       let n = number_back (crc_of l) crc-lt in
       let d = drop_at l (four_octets (crc_of l)) _ seam in
       let long : 4 ≤ length (l ++ four_octets (crc_of l)) = omega (arith, length_crc l) in
-      rw (le-leb 4 _ long) (eq-eqb _ _ (ap crc_of payload-back ∙ sym (ap number d ∙ n)))
+      rw (le-leb 4 _ long) (eq-eqb _ _ (ap crc_of payload_back ∙ sym (ap number d ∙ n)))
 
 -- octets whose CRC is right are some octets with their CRC
 pub crc_there : (m : List ℕ) → Octets m → 4 ≤ length m → crc_right m ≡ true → m ≡ with_crc (payload m)

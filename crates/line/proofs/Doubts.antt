@@ -13,7 +13,7 @@ use lib.ListN.{length, take, drop, get_or, set, length-set, length-append, take-
 use lib.Seq.{ext_get_or, get_or-take, get_or-set_same, get_or-set_other, length-take-le}
 use Rattle.line.proofs.Table.{all, head_of, tail_of, at}
 use Rattle.line.proofs.Starts.{set_length, exact_is}
-use Rattle.line.proofs.Agreeing.{agree_all, all_agree, less_one, agree_front, three-is, three-or, counted-doubtful, agreeing_front, exact_long}
+use Rattle.line.proofs.Agreeing.{agree_all, all_agree, less_one, agree_front, three_is, three_or, counted_doubtful, agreeing_front, exact_long}
 use Rattle.line.proofs.Exactly.{no_frame_exactly}
 use Rattle.line.specs.Kind.{ordered_sets, kinds, set_of}
 use Rattle.line.specs.Read.{agree, agreeing}
@@ -41,7 +41,7 @@ exact_far l j k e t =
     let n = set_length j e.kind in
     let m = set_length k t.kind in
     let three : agree (set_of k) (set_of j) ≡ 3 =
-    sym (agree_front (set_of k) (set_of j) _ (omega arith)) ∙ ap (agree (set_of k)) (sym (exact_is l j e)) ∙ three-is l long k t.kind t in
+    sym (agree_front (set_of k) (set_of j) _ (omega arith)) ∙ ap (agree (set_of k)) (sym (exact_is l j e)) ∙ three_is l long k t.kind t in
     elim (ℕ_discrete k j) [
       | yes q ↦
           let four : agree (set_of k) (set_of k) ≡ length (set_of k) = all_agree (set_of k) (set_of k) (omega arith) (λ i h. refl) in
@@ -77,7 +77,7 @@ module _ (k i v : ℕ) (x : List ℕ) (h : k < kinds) (place : i < 4) (changed :
       }
 
   changed-once : Nearly line k ⊎ Doubtful line
-  changed-once = three-or line line-long k near-set (λ j e. exact_far line j k e near-set)
+  changed-once = three_or line line-long k near-set (λ j e. exact_far line j k e near-set)
 
 pub one_changed : OneChanged
 one_changed = changed-once
@@ -114,7 +114,7 @@ unfolding every is_several agreeing agree
 among_doubtful l long m =
     let t = among_every is_several doubtful_sets (take 4 l) tt m in
     let several : 2 ≤ length (agreeing 0 ordered_sets (take 4 l)) = leb→le 2 (length (agreeing 0 ordered_sets (take 4 l))) t in
-    counted-doubtful l long (subst (λ (ks : List ℕ). 2 ≤ length ks) (sym (agreeing_front l long)) several)
+    counted_doubtful l long (subst (λ (ks : List ℕ). 2 ≤ length ks) (sym (agreeing_front l long)) several)
 
 -- ---- 5. Several kinds: no others are
 
@@ -220,7 +220,7 @@ module _ (l : List ℕ) (d : Doubtful l) where
       ap (agree (set_of k)) (sym front)
       ∙ sym (agree_front (set_of k) (take 4 l) (drop 4 l) (omega (arith, set_other)))
       ∙ ap (agree (set_of k)) (take-append-drop 4 l)
-      ∙ three-is l d.four k d.with_other.kind d.with_other
+      ∙ three_is l d.four k d.with_other.kind d.with_other
 
   doubtful-among : Among (take 4 l) doubtful_sets
   unfolding is_listed

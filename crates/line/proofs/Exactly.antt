@@ -13,9 +13,9 @@ use lib.Seq.{take-take, take-length}
 use Rattle.line.proofs.Looks.{empty, Begun, Part, Stands, Ends, Says}
 use Rattle.line.proofs.Bodies.{Sized}
 use Rattle.line.proofs.Starts.{set_length, set_there, exact_is, drop_set}
-use Rattle.line.proofs.Agreeing.{taken_kind, taken_long, taken-set, short-set, untaken-set, SetMeans, set_means}
+use Rattle.line.proofs.Agreeing.{taken_kind, taken_long, taken_set, short_set, untaken_set, SetMeans, set_means}
 use Rattle.line.proofs.Shapes.{sized_of, length_drawn, drawn_exact, same_kind, shape_back, one_shape, shape_says}
-use Rattle.line.proofs.Crcs.{length_crc, octets_crc, payload, length_payload, octets_payload, payload-back, crc-right, crc_there}
+use Rattle.line.proofs.Crcs.{length_crc, octets_crc, payload, length_payload, octets_payload, payload_back, crc_right_lem, crc_there}
 use Rattle.line.specs.Kind.{kinds, sop_kinds, set_of, carries}
 use Rattle.line.specs.Frame.{Frame, Whole, Shape, Shaped, drawn, sealed, symbols_of}
 use Rattle.line.specs.Read.{Look, found, short, misfit, TakenSet, set_at, shape_behind, exact_frame, First, frame, wrong_crc, too_short, no_frame, checked, first_of, after_set, first}
@@ -40,20 +40,20 @@ unsealed s = record { kind = s.kind; octets = payload s.octets }
 pub unsealed_sealed : (f : Frame) → Whole f → unsealed (sealed f) ≡ f
 unfolding unsealed sealed carries payload
 unsealed_sealed f (Whole.message h o lo hi) =
-    rw (lt-ltb f.kind sop_kinds h) (λ i. record { kind = f.kind; octets = payload-back f.octets i })
+    rw (lt-ltb f.kind sop_kinds h) (λ i. record { kind = f.kind; octets = payload_back f.octets i })
 unsealed_sealed f (Whole.alone h k e) = rw (le-ltb f.kind sop_kinds h) (λ i. record { kind = f.kind; octets = sym e i })
 
 -- ---- 1. What was written is read back
 
 checked_sealed : (f : Frame) → Whole f → checked true (sealed f) ≡ frame (exact_frame (sealed f))
 unfolding checked sealed carries
-checked_sealed f (Whole.message h o lo hi) = simp (lt-ltb f.kind sop_kinds h, crc-right f.octets)
+checked_sealed f (Whole.message h o lo hi) = simp (lt-ltb f.kind sop_kinds h, crc_right_lem f.octets)
 checked_sealed f (Whole.alone h k e) = simp (le-ltb f.kind sop_kinds h)
 
 -- after a set that is taken: what is behind it
 taken_first : (line : List ℕ) (k : ℕ) (exact : Bool) → TakenAs line k exact → first line ≡ first_of exact (shape_behind k (drop 4 line))
 unfolding first after_set
-taken_first line k exact t = ap (λ (r : Look TakenSet). after_set r line) (taken-set line k exact t)
+taken_first line k exact t = ap (λ (r : Look TakenSet). after_set r line) (taken_set line k exact t)
 
 first_shape : (s : Shape) (x : List ℕ) → Shaped s → first (drawn s ++ x) ≡ checked true s
 unfolding first_of
@@ -96,7 +96,7 @@ module _ (line : List ℕ) (s : Shape) (st : Stands Shaped drawn line s) where
         shape = s;
         shaped = st.right;
         sop = h;
-        wrong = λ l q. true≢false (sym (ap crc_right q ∙ crc-right l) ∙ e);
+        wrong = λ l q. true≢false (sym (ap crc_right q ∙ crc_right_lem l) ∙ e);
         rest = st.rest;
         is = st.is;
         before_end = sym (length_drawn s h);
@@ -275,9 +275,9 @@ module _ (line : List ℕ) (k : ℕ) (exact : Bool) (t : TakenAs line k exact) w
   unfolding straight
   straight-exact = set_there k (drop 4 line) kind_of_lem
 
-  pub straight-long : length (straight k line) ≡ length line
+  pub straight_long : length (straight k line) ≡ length line
   unfolding straight
-  straight-long =
+  straight_long =
       omega (arith, length-append (set_of k) (drop 4 line), set_length k kind_of_lem, length-drop 4 line, taken_long line k exact t)
 
   as-exact : first line ≡ marked exact (first (straight k line))
@@ -408,15 +408,15 @@ module _ (line : List ℕ) where
       go (unset u q) = let z : ◌≡◌ {A = ℕ} 0 1 = cc in absurd (omega arith)
       go (set t q) =
           let m = answer-means (straight t.kind line) t.kind (set-there-right line t) (too_short p) (marked_short t.exact _ p (sym q ∙ e)) in
-          (inr (as-if line t Cut m.0), m.1 ∙ straight-long line t.kind t.exact t.taken)
+          (inr (as-if line t Cut m.0), m.1 ∙ straight_long line t.kind t.exact t.taken)
 
   short-answer : (p : ℕ) → (length line < 4) ⊎ AsIfExact Cut line → p ≡ length line → first line ≡ too_short p
   unfolding first after_set marked
-  short-answer p (inl h) e = ap (λ (r : Look TakenSet). after_set r line) (short-set line h) ∙ ap too_short (sym e)
+  short-answer p (inl h) e = ap (λ (r : Look TakenSet). after_set r line) (short_set line h) ∙ ap too_short (sym e)
   short-answer p (inr a) e =
       as-exact line a.kind a.exact a.taken
       ∙ ap (marked a.exact) (cut-answer (straight a.kind line) a.kind (straight-exact line a.kind a.exact a.taken) a.holds)
-      ∙ ap too_short (straight-long line a.kind a.exact a.taken ∙ sym e)
+      ∙ ap too_short (straight_long line a.kind a.exact a.taken ∙ sym e)
 
   none-means : (p : ℕ) → first line ≡ no_frame p → (Untaken line × (p ≡ 0)) ⊎ AsIfExact (Unframed p) line
   none-means p e = go (by_set line)
@@ -428,7 +428,7 @@ module _ (line : List ℕ) where
 
   none-answer : (p : ℕ) → (Untaken line × (p ≡ 0)) ⊎ AsIfExact (Unframed p) line → first line ≡ no_frame p
   unfolding first after_set marked
-  none-answer p (inl u) = ap (λ (r : Look TakenSet). after_set r line) (untaken-set line u.0) ∙ ap no_frame (sym u.1)
+  none-answer p (inl u) = ap (λ (r : Look TakenSet). after_set r line) (untaken_set line u.0) ∙ ap no_frame (sym u.1)
   none-answer p (inr a) =
       as-exact line a.kind a.exact a.taken
       ∙ ap (marked a.exact) (nothing-answer (straight a.kind line) a.kind (straight-exact line a.kind a.exact a.taken) p a.holds)
@@ -443,7 +443,7 @@ none_place line p e = go (by_set line)
     go (unset u q) = let same : p ≡ 0 = cc in omega (arith, u.four)
     go (set t q) =
         let m = answer-means (straight t.kind line) t.kind (set-there-right line t) (no_frame p) (marked_none t.exact _ p (sym q ∙ e)) in
-        omega (arith, m.0, straight-long line t.kind t.exact t.taken)
+        omega (arith, m.0, straight_long line t.kind t.exact t.taken)
 
 pub frame_exactly : FrameExactly
 frame_exactly line s exact = (frame-means line s exact, λ h. frame-answer line s exact h.0 h.1)

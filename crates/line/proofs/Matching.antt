@@ -29,9 +29,9 @@ pub begin : (s l : List ℕ) → Counted s l 0 0
 begin s l = record { in_set = omega arith; few = omega arith; so_far = omega arith }
 
 module _ (s l : List ℕ) (i n : ℕ) (st : Counted s l i n) where
-  pub set-ends : length s ≤ i → n ≡ agree s l
+  pub set_ends : length s ≤ i → n ≡ agree s l
   unfolding agree
-  set-ends h = let z = st.so_far in let e : agree (drop i s) (drop i l) ≡ 0 = ap (λ (x : List ℕ). agree x (drop i l)) (drop_of_length-le s h) in omega arith
+  set_ends h = let z = st.so_far in let e : agree (drop i s) (drop i l) ≡ 0 = ap (λ (x : List ℕ). agree x (drop i l)) (drop_of_length-le s h) in omega arith
 
   module _ (a : i < length s) (b : i < length l) where
     agrees : get_or s i 0 ≡ get_or l i 0 → Counted s l (i + 1) (n + 1)
@@ -144,10 +144,10 @@ module _ (l : List ℕ) (near count k : ℕ) (st : Tried l near count k) (long :
             }
 
         -- after the test, whichever way it went
-        pub next-kind : (near' count' : ℕ) → ((n ≡ 3) × (near' ≡ k) × (count' ≡ count + 1)) ⊎ ((n ≡ 3 → ⊥) × (near' ≡ near) × (count' ≡ count))
+        pub next_kind : (near' count' : ℕ) → ((n ≡ 3) × (near' ≡ k) × (count' ≡ count + 1)) ⊎ ((n ≡ 3 → ⊥) × (near' ≡ near) × (count' ≡ count))
             → Tried l near' count' (k + 1)
-        next-kind near' count' (inl t) = rw (t.1, t.2) (next-near t.0)
-        next-kind near' count' (inr t) = rw (t.1, t.2) (next-far t.0)
+        next_kind near' count' (inl t) = rw (t.1, t.2) (next-near t.0)
+        next_kind near' count' (inr t) = rw (t.1, t.2) (next-far t.0)
 
   module _ (h : kinds ≤ k) where
     by_near : set_at l ≡ single st.so_far
@@ -159,13 +159,13 @@ module _ (l : List ℕ) (near count k : ℕ) (st : Tried l near count k) (long :
         st.three ∙ ap (λ (ss : List (List ℕ)). st.so_far ++ agreeing k ss l) d ∙ append-nil st.so_far in
         taken_at ∙ ap₂ taken_or a b
 
-    pub one-near : count ≡ 1 → found (record { kind = near; exact = false }) ≡ set_at l
+    pub one_near : count ≡ 1 → found (record { kind = near; exact = false }) ≡ set_at l
     unfolding single
-    one-near e = sym (by_near ∙ ap single (st.only e))
+    one_near e = sym (by_near ∙ ap single (st.only e))
 
-    pub none-near : (count ≡ 1 → ⊥) → misfit 0 ≡ set_at l
+    pub none_near : (count ≡ 1 → ⊥) → misfit 0 ≡ set_at l
     unfolding single
-    none-near e = sym (by_near ∙ go st.so_far (λ q. e (sym st.many ∙ q)))
+    none_near e = sym (by_near ∙ go st.so_far (λ q. e (sym st.many ∙ q)))
       where
         go : (ks : List ℕ) → (length ks ≡ 1 → ⊥) → single ks ≡ misfit 0
         go [] q = refl

@@ -69,22 +69,22 @@ module _ (l : List ℕ) (n : ℕ) (st : Counted l n) where
   counted : nibble_run (68 - n) (drop n l) ≡ 0 → n ≡ nibble_run 68 l
   counted e = let z = st.so_far in omega arith
 
-  pub all-counted : n ≡ 68 → n ≡ nibble_run 68 l
+  pub all_counted : n ≡ 68 → n ≡ nibble_run 68 l
   unfolding nibble_run
-  all-counted h = counted (ap (λ (m : ℕ). nibble_run (68 - m) (drop n l)) h)
+  all_counted h = counted (ap (λ (m : ℕ). nibble_run (68 - m) (drop n l)) h)
 
-  pub line-counted : length l ≤ n → n ≡ nibble_run 68 l
-  line-counted h = counted (ap (nibble_run (68 - n)) (drop_of_length-le l h) ∙ run_none (68 - n))
+  pub line_counted : length l ≤ n → n ≡ nibble_run 68 l
+  line_counted h = counted (ap (nibble_run (68 - n)) (drop_of_length-le l h) ∙ run_none (68 - n))
 
   module _ (more : n < length l) where
     at_symbol : drop n l ≡ get_or l n 0 ∷ drop (suc n) l
     at_symbol = drop-cons l n 0 more
 
-    pub symbol-stops : (x : ℕ) → x ≡ nibble_of (get_or l n 0) → 15 < x → n ≡ nibble_run 68 l
-    symbol-stops x e h = counted (ap (nibble_run (68 - n)) at_symbol ∙ run_stop (68 - n) (get_or l n 0) (drop (suc n) l) (omega arith))
+    pub symbol_stops : (x : ℕ) → x ≡ nibble_of (get_or l n 0) → 15 < x → n ≡ nibble_run 68 l
+    symbol_stops x e h = counted (ap (nibble_run (68 - n)) at_symbol ∙ run_stop (68 - n) (get_or l n 0) (drop (suc n) l) (omega arith))
 
-    pub symbol-counts : (x : ℕ) → x ≡ nibble_of (get_or l n 0) → x ≤ 15 → (n ≡ 68 → ⊥) → Counted l (n + 1)
-    symbol-counts x e h ne =
+    pub symbol_counts : (x : ℕ) → x ≡ nibble_of (get_or l n 0) → x ≤ 15 → (n ≡ 68 → ⊥) → Counted l (n + 1)
+    symbol_counts x e h ne =
         let below : n < 68 = let f = st.few in omega (arith, ne) in
         let m : 68 - n ≡ suc (68 - (n + 1)) = omega arith in
         let z = st.so_far in
@@ -111,11 +111,11 @@ pairs_length (suc n) (s ∷ []) e = absurd (omega arith)
 pairs_length (suc n) (s ∷ t ∷ l) e = ap suc (pairs_length n l (omega arith))
 
 module _ (body : List ℕ) (n : ℕ) (h : 2 * n ≤ nibble_run 68 body) where
-  pub pairs-within : 2 * n ≤ length body
-  pairs-within = let z = (run 68 body).within in omega arith
+  pub pairs_within : 2 * n ≤ length body
+  pairs_within = let z = (run 68 body).within in omega arith
 
   pub length_pairs : length (octets_of (take (2 * n) body)) ≡ n
-  length_pairs = pairs_length n (take (2 * n) body) (length-take-le (2 * n) body pairs-within)
+  length_pairs = pairs_length n (take (2 * n) body) (length-take-le (2 * n) body pairs_within)
 
 -- ---- a message by its CRC: its n octets are held in an array
 
@@ -140,10 +140,10 @@ module _ (array held : List ℕ) (s : Shape) (n : ℕ) (long : length s.octets �
         let q : checked exact s ≡ wrong_crc (4 + 2 * n) = by-crc ∙ rw f refl in
         rw q (record { says = refl; leaves = refl })
 
-    pub crc-agrees : b ≡ true → (after : List ℕ) → after ≡ sets before 0 (take n held)
+    pub crc_agrees : b ≡ true → (after : List ℕ) → after ≡ sets before 0 (take n held)
         → Tells at (checked exact s) before (Frame s.kind exact n (record { at = at + 5 + 2 * n })) after
     unfolding says_of filled
-    crc-agrees f after g =
+    crc_agrees f after g =
         let d = length_drawn s sop in
         let q : checked exact s ≡ frame read = by-crc ∙ rw f refl in
         rw q
@@ -159,15 +159,15 @@ module _ (at k : ℕ) (exact : Bool) (body before : List ℕ) (n : ℕ) (e : n �
   unfolding body_at
   body_is = ap (λ (i : ℕ). end_or i body) (sym e)
 
-  pub body-most : n ≤ 68
-  body-most = let z = (run 68 body).most in omega arith
+  pub body_most : n ≤ 68
+  body_most = let z = (run 68 body).most in omega arith
 
-  pub body-within : n ≤ length body
-  body-within = let z = (run 68 body).within in omega arith
+  pub body_within : n ≤ length body
+  body_within = let z = (run 68 body).within in omega arith
 
-  pub body-short : n ≡ length body → Tells at (first_of exact (with_set k (body_at body))) before (TooShort (4 + n)) before
+  pub body_short : n ≡ length body → Tells at (first_of exact (with_set k (body_at body))) before (TooShort (4 + n)) before
   unfolding end_or with_set first_of says_of filled
-  body-short h =
+  body_short h =
       let q : end_or n body ≡ short n = simp (eq-eqb n (length body) h) in
       rw (body_is ∙ q) (record { says = refl; leaves = refl })
 
@@ -176,9 +176,9 @@ module _ (at k : ℕ) (exact : Bool) (body before : List ℕ) (n : ℕ) (e : n �
     unfolding end_or
     at-end = simp (ne_eqb n (length body) more, ← t)
 
-    pub body-misfit : b ≡ false → Tells at (first_of exact (with_set k (body_at body))) before (NoFrame (4 + n)) before
+    pub body_misfit : b ≡ false → Tells at (first_of exact (with_set k (body_at body))) before (NoFrame (4 + n)) before
     unfolding with_set first_of says_of filled
-    body-misfit f =
+    body_misfit f =
         let q : end_or n body ≡ misfit n = at-end ∙ simp f in
         rw (body_is ∙ q) (record { says = refl; leaves = refl })
 
@@ -189,11 +189,11 @@ module _ (at k : ℕ) (exact : Bool) (body before : List ℕ) (n : ℕ) (e : n �
       pub pairs : 2 * (n / 2) ≡ n
       pairs = let z = ending.even in omega arith
 
-      pub body-whole : (r : Answer) (after : List ℕ)
+      pub body_whole : (r : Answer) (after : List ℕ)
           → Tells at (checked exact (record { kind = k; octets = octets_of (take (2 * (n / 2)) body) })) before r after
           → Tells at (first_of exact (with_set k (body_at body))) before r after
       unfolding with_set first_of
-      body-whole r after h =
+      body_whole r after h =
           let q : end_or n body ≡ found (octets_of (take n body)) = at-end ∙ simp f in
           rw (body_is ∙ q) (rw pairs at h)
 
@@ -203,8 +203,8 @@ module _ (l : List ℕ) (start : Start) (r : start_of start ≡ set_at l) (k : �
   set-taken : TakenAs l k exact
   set-taken = subst (SetMeans l) (sym r ∙ ap start_of e) (set_means l)
 
-  pub set-fits : 4 ≤ length l
-  set-fits = taken_long l k exact set-taken
+  pub set_fits : 4 ≤ length l
+  set_fits = taken_long l k exact set-taken
 
 -- ---- the ways out
 
@@ -221,25 +221,25 @@ module _ (line before : List ℕ) (at : ℕ) (room : octet_room ≤ length befor
     unfolding first
     first-is = ap (λ (x : Look TakenSet). after_set x (drop at line)) (sym r)
 
-    pub set-short : (p : ℕ) → start ≡ Short p → Reads line at before (TooShort p) before
+    pub set_short : (p : ℕ) → start ≡ Short p → Reads line at before (TooShort p) before
     unfolding after_set says_of filled
-    set-short p e = by (TooShort p) before (rw (first-is, e) (record { says = refl; leaves = refl }))
+    set_short p e = by (TooShort p) before (rw (first-is, e) (record { says = refl; leaves = refl }))
 
-    pub set-misfit : start ≡ Misfit → Reads line at before (NoFrame 0) before
+    pub set_misfit : start ≡ Misfit → Reads line at before (NoFrame 0) before
     unfolding after_set says_of filled
-    set-misfit e = by (NoFrame 0) before (rw (first-is, e) (record { says = refl; leaves = refl }))
+    set_misfit e = by (NoFrame 0) before (rw (first-is, e) (record { says = refl; leaves = refl }))
 
     module _ (k : ℕ) (exact : Bool) (e : start ≡ Set k exact) where
-      pub set-alone : sop_kinds ≤ k → Reads line at before (Frame k exact 0 (record { at = at + 4 })) before
+      pub set_alone : sop_kinds ≤ k → Reads line at before (Frame k exact 0 (record { at = at + 4 })) before
       unfolding after_set shape_behind first_of checked says_of filled drawn
-      set-alone h =
+      set_alone h =
           let s : Shape = record { kind = k; octets = [] } in
           let q : first (drop at line) ≡ frame (record { shape = record { kind = k; octets = [] }; exact = exact }) = first-is ∙ simp (e, bare k h) in
           let kind = taken_kind (drop at line) k exact (set-taken (drop at line) start r k exact e) in
           let n : length (drawn s) ≡ 4 = simp (bare k h, append-nil) (set_length k kind) in
           by _ before (rw q (record { says = ap (λ (i : ℕ). was_read k exact 0 (at + i)) (sym n); leaves = refl }))
 
-      pub set-message : k < sop_kinds → (a : Answer) (after : List ℕ)
+      pub set_message : k < sop_kinds → (a : Answer) (after : List ℕ)
           → Tells at (first_of exact (with_set k (body_at (drop 4 (drop at line))))) before a after → Reads line at before a after
       unfolding after_set shape_behind
-      set-message h a after t = by a after (rw (first-is, e, carrying k h) t)
+      set_message h a after t = by a after (rw (first-is, e, carrying k h) t)

@@ -13,7 +13,7 @@ use lib.Seq.{take-append-add}
 use Rattle.line.proofs.Nibbles.{length_encoded}
 use Rattle.line.proofs.Looks.{Begun, Part, Says}
 use Rattle.line.proofs.Starts.{set_length, set_kind, set_there, drop_set}
-use Rattle.line.proofs.Bodies.{Sized, body, body_back, body-says}
+use Rattle.line.proofs.Bodies.{Sized, body, body_back, body_says}
 use Rattle.line.specs.Kind.{ordered_sets, kinds, sop_kinds, set_of, carries, kind_from}
 use Rattle.line.specs.Frame.{Shape, Shaped, drawn}
 use Rattle.line.specs.Taken.{Exactly}
@@ -178,7 +178,7 @@ shape_says k l h = go (ltb k sop_kinds) refl
   where
     go : (b : Bool) → ltb k sop_kinds ≡ b
         → Says Shaped drawn (set_of k ++ l) (cond b (with_set k (body_at l)) (found (record { kind = k; octets = [] })))
-    go true e = body-says-shape k (ltb-true k sop_kinds e) l (body_at l) (body-says l)
+    go true e = body-says-shape k (ltb-true k sop_kinds e) l (body_at l) (body_says l)
     go false e =
         let alone = ltb-false k sop_kinds e in
         record { right = Shaped.alone alone h refl; rest = l; is = ap (λ (x : List ℕ). x ++ l) (sym (drawn_alone k [] alone)) }

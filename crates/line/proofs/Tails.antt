@@ -92,9 +92,9 @@ leaves_rest line rest at kind exact count next before after r t =
 -- ---- the tail that an answer leads to
 
 module _ (line : Bor (List ℕ)) (a : Answer) where
-  pub tail-on : (k : ℕ) (exact : Bool) (n : ℕ) (c : Cursor) (r : Bor (List ℕ)) → a ≡ FrameRead k exact n c → IsTail line c.at r → IsTail line (behind 0 (said a)) r
+  pub tail_on : (k : ℕ) (exact : Bool) (n : ℕ) (c : Cursor) (r : Bor (List ℕ)) → a ≡ FrameRead k exact n c → IsTail line c.at r → IsTail line (behind 0 (said a)) r
   unfolding behind
-  tail-on k exact n c r e t = rw e t
+  tail_on k exact n c r e t = rw e t
 
   all_of : (b : Answer) → a ≡ b → behind 0 (said b) ≡ 0 → IsTail line (behind 0 (said a)) line
   all_of b e z = rw (e, z) (record { block = refl; offset = omega arith; holds = refl })
@@ -111,9 +111,9 @@ module _ (line : Bor (List ℕ)) (a : Answer) where
   unfolding behind
   all_short p e = all_of (TooShort p) e refl
 
-  pub all-wrong : (p : ℕ) → a ≡ WrongCrc p → IsTail line (behind 0 (said a)) line
+  pub all_wrong : (p : ℕ) → a ≡ WrongCrc p → IsTail line (behind 0 (said a)) line
   unfolding behind
-  all-wrong p e = all_of (WrongCrc p) e refl
+  all_wrong p e = all_of (WrongCrc p) e refl
 
 -- the place that the first frame's answer leads to
 behind_first : (f : First) → behind 0 (says_of 0 f) ≡ span f

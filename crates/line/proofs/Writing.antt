@@ -142,13 +142,13 @@ module _ (f : Frame) (before : List ℕ) where
           by none (Sent n) after (simp (le-ltb (length before) frame_room room, lt-ltb f.kind kinds known, e)) (ap sent p.long)
           (p.puts ∙ sets_front (symbols_of f) before (omega arith))
 
-      pub message-sent : f.kind < sop_kinds → 2 ≤ length f.octets → length f.octets ≤ 30
+      pub message_sent : f.kind < sop_kinds → 2 ≤ length f.octets → length f.octets ≤ 30
           → (n : ℕ) (after : List ℕ) → Put f before n after → Writes f before (Sent n) after
-      message-sent h lo hi = taken (right-many f.kind (length f.octets) h lo hi) (let n = length-message f h in omega arith)
+      message_sent h lo hi = taken (right-many f.kind (length f.octets) h lo hi) (let n = length-message f h in omega arith)
 
-      pub alone-sent : sop_kinds ≤ f.kind → length f.octets ≡ 0
+      pub alone_sent : sop_kinds ≤ f.kind → length f.octets ≡ 0
           → (after : List ℕ) → after ≡ sets before 0 (set_of f.kind) → Writes f before (Sent 4) after
-      alone-sent h e after q =
+      alone_sent h e after q =
           let n = length_alone f h known in
           taken (none-alone f.kind (length f.octets) h e) (omega arith) 4 after
           (record { long = sym n; puts = q ∙ ap (sets before 0) (sym (alone-symbols f h)) })

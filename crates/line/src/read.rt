@@ -11,14 +11,14 @@ use crate::sets::{SOP_KINDS, Start, set_at};
 use crate::symbols::{EOP, nibble};
 
 // A place in a record.
-#[derive(Drop)]
+#[derive(Clone, Copy)]
 pub struct Cursor {
     pub at: usize,
 }
 
 // What the reader answers: the frame's kind, whether its set was exact (02, A4), the number of its octets with CRC and the place
 // after it; or the place, counted from the cursor, at which there is no frame.
-#[derive(Drop)]
+#[derive(Clone, Copy)]
 pub enum Answer {
     Frame {
         kind: u8,

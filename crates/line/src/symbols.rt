@@ -30,6 +30,7 @@ pub(crate) fn symbol(nibble: u8) -> u8
 }
 
 // The nibble of a symbol, and 16 for one that stands for none: the rows of PD's 4b5b page, in its order and notation (02, A3).
+#[tactic(auto, unfolding(crate::specs::Symbol::nibble_of, crate::specs::Symbol::place_of))]
 pub(crate) fn nibble(symbol: u8) -> u8
     ensures { result ≡ nibble_of symbol }
 {

@@ -21,9 +21,9 @@ module _ (w before after : List ℕ) (a : Answer) (room : octet_room ≤ length 
       let t = with_room w 0 before a after room r in
       each (first w) (ap said (sym e) ∙ t.says) t.leaves
 
-  pub is-frame : (k : ℕ) (exact : Bool) (n : ℕ) (c : Cursor) → a ≡ Frame k exact n c → first w ≡ frame (record { shape = record { kind = k; octets = take n after }; exact = exact })
+  pub is_frame : (k : ℕ) (exact : Bool) (n : ℕ) (c : Cursor) → a ≡ Frame k exact n c → first w ≡ frame (record { shape = record { kind = k; octets = take n after }; exact = exact })
   unfolding says_of filled
-  is-frame k exact n c e = inverts (Frame k exact n c) (λ f. f ≡ frame (record { shape = record { kind = k; octets = take n after }; exact = exact })) e go
+  is_frame k exact n c e = inverts (Frame k exact n c) (λ f. f ≡ frame (record { shape = record { kind = k; octets = take n after }; exact = exact })) e go
     where
       go : (f : First) → said (Frame k exact n c) ≡ says_of 0 f → after ≡ filled f before → f ≡ frame (record { shape = record { kind = k; octets = take n after }; exact = exact })
       go (frame r) e l =
@@ -47,9 +47,9 @@ module _ (w before after : List ℕ) (a : Answer) (room : octet_room ≤ length 
       go (too_short q) e l = cc
       go (no_frame q) e l = cc
 
-  pub is-short : (p : ℕ) → a ≡ TooShort p → first w ≡ too_short p
+  pub is_short : (p : ℕ) → a ≡ TooShort p → first w ≡ too_short p
   unfolding says_of filled
-  is-short p e = inverts (TooShort p) (λ f. f ≡ too_short p) e go
+  is_short p e = inverts (TooShort p) (λ f. f ≡ too_short p) e go
     where
       go : (f : First) → said (TooShort p) ≡ says_of 0 f → after ≡ filled f before → f ≡ too_short p
       go (frame r) e l = cc
@@ -57,9 +57,9 @@ module _ (w before after : List ℕ) (a : Answer) (room : octet_room ≤ length 
       go (too_short q) e l = cc
       go (no_frame q) e l = cc
 
-  pub is-wrong : (p : ℕ) → a ≡ WrongCrc p → first w ≡ wrong_crc p
+  pub is_wrong : (p : ℕ) → a ≡ WrongCrc p → first w ≡ wrong_crc p
   unfolding says_of filled
-  is-wrong p e = inverts (WrongCrc p) (λ f. f ≡ wrong_crc p) e go
+  is_wrong p e = inverts (WrongCrc p) (λ f. f ≡ wrong_crc p) e go
     where
       go : (f : First) → said (WrongCrc p) ≡ says_of 0 f → after ≡ filled f before → f ≡ wrong_crc p
       go (frame r) e l = cc
@@ -68,9 +68,9 @@ module _ (w before after : List ℕ) (a : Answer) (room : octet_room ≤ length 
       go (no_frame q) e l = cc
 
   -- with room it is never asked for more
-  pub not-small : a ≡ SmallBuffer → ⊥
+  pub not_small : a ≡ SmallBuffer → ⊥
   unfolding says_of filled
-  not-small e = inverts SmallBuffer (λ f. ⊥) e go
+  not_small e = inverts SmallBuffer (λ f. ⊥) e go
     where
       go : (f : First) → said SmallBuffer ≡ says_of 0 f → after ≡ filled f before → ⊥
       go (frame r) e l = let z : ◌≡◌ {A = ℕ} 0 1 = cc in omega arith

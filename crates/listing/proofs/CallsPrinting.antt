@@ -20,7 +20,7 @@ use Rattle.listing.specs.Steps.{ListingState, empty_state, Step, goes, stops, on
 use Rattle.listing.specs.Promises.{window_room, state_of, listing_of, printed_by, fed_by, window_after}
 use Rattle.listing.specs.Calls.{text_between, CallsPrint, last, on, stop}
 use Rattle.listing.specs.Theorems.{ListsByCalls}
-use Rattle.listing.proofs.Goings.{one_more, bounds-may, took, finish_inside}
+use Rattle.listing.proofs.Goings.{one_more, bounds_may, took, finish_inside}
 use Rattle.listing.proofs.Lists.{lists_all}
 
 -- ---- what is printed is what stands there
@@ -103,7 +103,7 @@ called : {l : Listing} {window input t : List ℕ} → length window ≡ window_
     → CallsPrint l window input t → t ≡ printed_from (state_of l window) input
 unfolding printed_from character_step end_text
 called long few counts (last l window out at r out' room p) =
-    let may = bounds-may l out at (record { few = few; fits = omega arith }) room in
+    let may = bounds_may l out at (record { few = few; fits = omega arith }) room in
     let q = is_printed may p in
     let n : length (take l.count window) ≡ l.count = length-take-le l.count window (omega arith) in
     let roomy = leb-true (at + frame_line_room) (length out) room in
@@ -111,7 +111,7 @@ called long few counts (last l window out at r out' room p) =
     shown out (end_text l.scan l.before l.count) at r out' q.next q.stands inside ∙ ap (end_text l.scan l.before) (sym n)
 called long few counts (on l window out at c r window' out' input u room p e more) =
     let st = step_to (form_after l.scan c) l.before (take l.count window) in
-    let g = took l c window out at r window' out' (bounds-may l out at (record { few = few; fits = omega arith }) room) p in
+    let g = took l c window out at r window' out' (bounds_may l out at (record { few = few; fits = omega arith }) room) p in
     let long' : length window' ≡ window_room = ap length g.holds ∙ window_long (form_after l.scan c) l.count window ∙ long in
     ap (λ (x : List ℕ). x ++ u) (shown out (printed_by st) at r.at out' (at_of st l at r g.fed) g.stands g.inside)
     ∙ goes_on st l at window' r input u
@@ -119,7 +119,7 @@ called long few counts (on l window out at c r window' out' input u room p e mor
     g.fed e (called long' g.few (omega (arith, g.counts)) more)
 called long few counts (stop l window out at c r window' out' input room p e) =
     let st = step_to (form_after l.scan c) l.before (take l.count window) in
-    let g = took l c window out at r window' out' (bounds-may l out at (record { few = few; fits = omega arith }) room) p in
+    let g = took l c window out at r window' out' (bounds_may l out at (record { few = few; fits = omega arith }) room) p in
     shown out (printed_by st) at r.at out' (at_of st l at r g.fed) g.stands g.inside ∙ stops_there st l at r _ g.fed e
 
 pub lists_by_calls : ListsByCalls

@@ -49,18 +49,18 @@ module _ (l : Listing) (window out : List ℕ) (at : ℕ) (right : Bounded l) (l
     abbrev all : List ℕ
     all = take l.count window ++ (v ∷ [])
 
-    pub all-long : length all ≡ l.count + 1
-    all-long = omega (arith, length-append (take l.count window) (v ∷ []), length-take-le l.count window (omega (arith, right.few)))
+    pub all_long : length all ≡ l.count + 1
+    all_long = omega (arith, length-append (take l.count window) (v ∷ []), length-take-le l.count window (omega (arith, right.few)))
 
     by_first : (f : First) → first all ≡ f → step_to (Symbol v) l.before (take l.count window) ≡ on_symbol (Symbol v) l.before all f
     unfolding step_to
     by_first f e = ap (on_symbol (Symbol v) l.before all) e
 
-    pub goes-frame : (r : ReadFrame) (e : ℕ) (out' : List ℕ) → first all ≡ frame r → length r.shape.octets ≤ 34 → Puts out at (frame_text l.before r) e out'
+    pub goes_frame : (r : ReadFrame) (e : ℕ) (out' : List ℕ) → first all ≡ frame r → length r.shape.octets ≤ 34 → Puts out at (frame_text l.before r) e out'
         → Goes l (Symbol v) window out at (record { listing = record { scan = Symbol v; before = l.before + l.count + 1; count = 0 }; ends = false; at = e }) (set window l.count v) out'
     unfolding on_symbol fed_by printed_by window_after
-    goes-frame r e out' is few p =
-        let place : l.before + length all ≡ l.before + l.count + 1 = omega (arith, all-long) in
+    goes_frame r e out' is few p =
+        let place : l.before + length all ≡ l.before + l.count + 1 = omega (arith, all_long) in
         record {
           fed = rw (by_first (frame r) is, place, p.next) refl;
           stands = rw (by_first (frame r) is) p.stands;
@@ -70,17 +70,17 @@ module _ (l : Listing) (window out : List ℕ) (at : ℕ) (right : Bounded l) (l
           counts = omega arith;
         }
 
-    pub goes-short : (q : ℕ) → first all ≡ too_short q
+    pub goes_short : (q : ℕ) → first all ≡ too_short q
         → Goes l (Symbol v) window out at (record { listing = record { scan = Symbol v; before = l.before; count = l.count + 1 }; ends = false; at = at }) (set window l.count v) out
     unfolding on_symbol fed_by printed_by window_after
-    goes-short q is =
+    goes_short q is =
         let few = short_few all q is in
         record {
-          fed = rw (by_first (too_short q) is, all-long, add-zero at) refl;
+          fed = rw (by_first (too_short q) is, all_long, add-zero at) refl;
           stands = rw (by_first (too_short q) is) refl;
           holds = refl;
           inside = omega (arith, room out at roomy);
-          few = omega (arith, all-long);
+          few = omega (arith, all_long);
           counts = omega arith;
         }
 
@@ -102,17 +102,17 @@ module _ (l : Listing) (window out : List ℕ) (at : ℕ) (right : Bounded l) (l
     unfolding on_symbol
     goes_none q e out' is p = stops-with (no_text 13 (l.before + q)) e out' (by_first (no_frame q) is) (no_short 13 (l.before + q)) p
 
-    pub goes-wrong : (q e : ℕ) (out' : List ℕ) → first all ≡ wrong_crc q → Puts out at (no_text 15 (l.before + q)) e out'
+    pub goes_wrong : (q e : ℕ) (out' : List ℕ) → first all ≡ wrong_crc q → Puts out at (no_text 15 (l.before + q)) e out'
         → Goes l (Symbol v) window out at (stopped l e) (set window l.count v) out'
     unfolding on_symbol
-    goes-wrong q e out' is p = stops-with (no_text 15 (l.before + q)) e out' (by_first (wrong_crc q) is) (no_short 15 (l.before + q)) p
+    goes_wrong q e out' is p = stops-with (no_text 15 (l.before + q)) e out' (by_first (wrong_crc q) is) (no_short 15 (l.before + q)) p
 
   -- ---- any other form of the text
 
-  pub goes-broken : (e : ℕ) (out' : List ℕ) → Puts out at (bad_octet_text (l.before + l.count + 1)) e out'
+  pub goes_broken : (e : ℕ) (out' : List ℕ) → Puts out at (bad_octet_text (l.before + l.count + 1)) e out'
       → Goes l Broken window out at (stopped l e) window out'
   unfolding step_to fed_by printed_by window_after
-  goes-broken e out' p =
+  goes_broken e out' p =
       let n : length (take l.count window) ≡ l.count = length-take-le l.count window (omega (arith, right.few)) in
       record {
         fed = rw (n, p.next) refl;
@@ -178,18 +178,18 @@ count_test p n h = go (ltb p (18446744073709551615 - n)) refl
 
 -- a listing that may print is in bounds, and has room
 module _ (l : Listing) (out : List ℕ) (at : ℕ) where
-  pub may-bounds : may_print l out at ≡ true → Bounded l
-  may-bounds e =
+  pub may_bounds : may_print l out at ≡ true → Bounded l
+  may_bounds e =
       let b = and_left (in_bounds l) (has_room frame_line_room out at) e in
       let few = ltb l.count window_room in
       let fits = ltb (l.before + l.count + 1) (2 ^ 64) in
       record { few = ltb-true l.count window_room (and_left few fits b); fits = ltb-true (l.before + l.count + 1) (2 ^ 64) (and_right few fits b) }
 
-  pub may-room : may_print l out at ≡ true → has_room frame_line_room out at ≡ true
-  may-room e = and_right (in_bounds l) (has_room frame_line_room out at) e
+  pub may_room : may_print l out at ≡ true → has_room frame_line_room out at ≡ true
+  may_room e = and_right (in_bounds l) (has_room frame_line_room out at) e
 
-  pub bounds-may : Bounded l → has_room frame_line_room out at ≡ true → may_print l out at ≡ true
-  bounds-may b h = simp (lt-ltb l.count window_room b.few, lt-ltb (l.before + l.count + 1) (2 ^ 64) b.fits, h)
+  pub bounds_may : Bounded l → has_room frame_line_room out at ≡ true → may_print l out at ≡ true
+  bounds_may b h = simp (lt-ltb l.count window_room b.few, lt-ltb (l.before + l.count + 1) (2 ^ 64) b.fits, h)
 
 -- where it may print a character is taken
 pub took : (l : Listing) (c : ℕ) (window out : List ℕ) (at : ℕ) (r : Fed) (window' out' : List ℕ) → may_print l out at ≡ true → Feeds l c window out at r window' out'
@@ -232,5 +232,5 @@ pub finish_inside : (l : Listing) (out : List ℕ) (at r : ℕ) (out' : List ℕ
 unfolding end_text
 finish_inside l out at r out' h p =
     ends_inside (may_print l out at) h
-    (λ e. omega (arith, room out at (may-room l out at e), end_short (input_may_end l.scan) l.before l.count))
+    (λ e. omega (arith, room out at (may_room l out at e), end_short (input_may_end l.scan) l.before l.count))
     p

@@ -15,7 +15,7 @@ use Rattle.line.specs.Taken.{AsIfExact}
 use Rattle.line.proofs.Looks.{empty}
 use Rattle.line.proofs.Starts.{set_length}
 use Rattle.line.proofs.Shapes.{length_drawn}
-use Rattle.line.proofs.Exactly.{straight-long, wrong_crc_exactly, too_short_exactly}
+use Rattle.line.proofs.Exactly.{straight_long, wrong_crc_exactly, too_short_exactly}
 use Rattle.listing.specs.Promises.{window_room}
 
 -- ---- no frame is longer than the window
@@ -42,7 +42,7 @@ short_few w q e = go ((too_short_exactly w q).0 e).0
   where
     go : (length w < 4) ⊎ AsIfExact Cut w → length w < window_room
     go (inl h) = omega arith
-    go (inr a) = omega (arith, cut_few a.holds, straight-long w a.kind a.exact a.taken)
+    go (inr a) = omega (arith, cut_few a.holds, straight_long w a.kind a.exact a.taken)
 
 -- ---- a CRC is wrong: the place is one of the record's
 
@@ -50,4 +50,4 @@ pub wrong_crc_place : (w : List ℕ) (q : ℕ) → first w ≡ wrong_crc q → q
 wrong_crc_place w q e =
     let a = (wrong_crc_exactly w q).0 e in
     let t = a.holds in
-    omega (arith, simp length-append at (ap length t.is), t.before_end, straight-long w a.kind a.exact a.taken)
+    omega (arith, simp length-append at (ap length t.is), t.before_end, straight_long w a.kind a.exact a.taken)

@@ -10,7 +10,7 @@ use Rattle.listing.specs.declared.Fed.{Fed}
 use Rattle.listing.specs.Steps.{empty_state}
 use Rattle.listing.specs.Promises.{Right, may_print, BeginsListing, TakesCharacter, Feeds}
 use Rattle.listing.specs.Theorems.{StaysRight}
-use Rattle.listing.proofs.Goings.{may-bounds}
+use Rattle.listing.proofs.Goings.{may_bounds}
 
 begins : (r : Listing) → BeginsListing r → Right r
 unfolding empty_state
@@ -22,7 +22,7 @@ module _ (l : Listing) (c : ℕ) (window out : List ℕ) (at : ℕ) (r : Fed) (w
   feeds right = go (may_print l out at) refl
     where
       go : (b : Bool) → may_print l out at ≡ b → TakesCharacter b l c window out at r window' out' → Right r.listing
-      go true e g = record { few = g.few; counted = omega (arith, g.counts, (may-bounds l out at e).fits) }
+      go true e g = record { few = g.few; counted = omega (arith, g.counts, (may_bounds l out at e).fits) }
       go false e g = subst (λ (f : Fed). Right f.listing) (sym g.0) right
 
 pub stays_right : StaysRight

@@ -19,8 +19,8 @@ use Rattle.listing.specs.Lines.{frame_text, no_text, frame_line_room}
 use Rattle.listing.specs.Promises.{window_room, Bounded, stopped, Goes}
 use Rattle.line.proofs.Exactly.{none_place}
 use Rattle.listing.proofs.Places.{wrong_crc_place}
-use Rattle.listing.proofs.Answers.{is-frame, is_none, is-short, is-wrong, not-small, count_fits}
-use Rattle.listing.proofs.Goings.{one_more, all-long, goes-frame, goes-short, goes_none, goes-wrong, gives}
+use Rattle.listing.proofs.Answers.{is_frame, is_none, is_short, is_wrong, not_small, count_fits}
+use Rattle.listing.proofs.Goings.{one_more, all_long, goes_frame, goes_short, goes_none, goes_wrong, gives}
 
 module _ (l : Listing) (window out : List ℕ) (at : ℕ) (right : Bounded l) (long : length window ≡ window_room) (roomy : has_room frame_line_room out at ≡ true)
     (v : ℕ) (lent octets : List ℕ) (a : Answer) (room : length lent ≡ octet_room) (kept : length octets ≡ octet_room)
@@ -37,34 +37,34 @@ module _ (l : Listing) (window out : List ℕ) (at : ℕ) (right : Bounded l) (l
   abbrev Ends : Fed → List ℕ → Type 0
   Ends r out' = Goes l (Symbol v) window out at r (set window l.count v) out'
 
-  pub frame-fits : (k : ℕ) (exact : Bool) (n : ℕ) (c : Cursor) → a ≡ Frame k exact n c → n ≤ length octets
-  frame-fits k exact n c e = count_fits all lent octets a roomed of-all k exact n c e
+  pub frame_fits : (k : ℕ) (exact : Bool) (n : ℕ) (c : Cursor) → a ≡ Frame k exact n c → n ≤ length octets
+  frame_fits k exact n c e = count_fits all lent octets a roomed of-all k exact n c e
 
-  pub frame-few : (k : ℕ) (exact : Bool) (n : ℕ) (c : Cursor) → a ≡ Frame k exact n c → length (take n octets) ≤ 34
-  frame-few k exact n c e = let h = frame-fits k exact n c e in omega (arith, length-take-le n octets h)
+  pub frame_few : (k : ℕ) (exact : Bool) (n : ℕ) (c : Cursor) → a ≡ Frame k exact n c → length (take n octets) ≤ 34
+  frame_few k exact n c e = let h = frame_fits k exact n c e in omega (arith, length-take-le n octets h)
 
-  pub answers-frame : (k : ℕ) (exact : Bool) (n : ℕ) (c : Cursor) (e : ℕ) (out' : List ℕ) → a ≡ Frame k exact n c → Puts out at (frame_text l.before (record { shape = record { kind = k; octets = take n octets }; exact = exact })) e out'
+  pub answers_frame : (k : ℕ) (exact : Bool) (n : ℕ) (c : Cursor) (e : ℕ) (out' : List ℕ) → a ≡ Frame k exact n c → Puts out at (frame_text l.before (record { shape = record { kind = k; octets = take n octets }; exact = exact })) e out'
       → Ends (record { listing = record { scan = Symbol v; before = l.before + l.count + 1; count = 0 }; ends = false; at = e }) out'
-  answers-frame k exact n c e out' is p =
-      goes-frame l window out at right long roomy v (record { shape = record { kind = k; octets = take n octets }; exact = exact }) e out' (is-frame all lent octets a roomed of-all k exact n c is) (frame-few k exact n c is) p
+  answers_frame k exact n c e out' is p =
+      goes_frame l window out at right long roomy v (record { shape = record { kind = k; octets = take n octets }; exact = exact }) e out' (is_frame all lent octets a roomed of-all k exact n c is) (frame_few k exact n c is) p
 
-  pub answers-short : (q : ℕ) → a ≡ TooShort q
+  pub answers_short : (q : ℕ) → a ≡ TooShort q
       → Ends (record { listing = record { scan = Symbol v; before = l.before; count = l.count + 1 }; ends = false; at = at }) out
-  answers-short q is = goes-short l window out at right long roomy v q (is-short all lent octets a roomed of-all q is)
+  answers_short q is = goes_short l window out at right long roomy v q (is_short all lent octets a roomed of-all q is)
 
-  pub none-fits : (q : ℕ) → a ≡ NoFrame q → l.before + q < 2 ^ 64
-  none-fits q is =
-      omega (arith, none_place all q (is_none all lent octets a roomed of-all q is), all-long l window out at right long roomy v, right.fits)
+  pub none_fits : (q : ℕ) → a ≡ NoFrame q → l.before + q < 2 ^ 64
+  none_fits q is =
+      omega (arith, none_place all q (is_none all lent octets a roomed of-all q is), all_long l window out at right long roomy v, right.fits)
 
-  pub answers-none : (q e : ℕ) (out' : List ℕ) (r : Fed) → a ≡ NoFrame q → Puts out at (no_text 13 (l.before + q)) e out' → r ≡ stopped l e → Ends r out'
-  answers-none q e out' r is p g = gives g (goes_none l window out at right long roomy v q e out' (is_none all lent octets a roomed of-all q is) p)
+  pub answers_none : (q e : ℕ) (out' : List ℕ) (r : Fed) → a ≡ NoFrame q → Puts out at (no_text 13 (l.before + q)) e out' → r ≡ stopped l e → Ends r out'
+  answers_none q e out' r is p g = gives g (goes_none l window out at right long roomy v q e out' (is_none all lent octets a roomed of-all q is) p)
 
-  pub wrong-fits : (q : ℕ) → a ≡ WrongCrc q → l.before + q < 2 ^ 64
-  wrong-fits q is =
-      omega (arith, wrong_crc_place all q (is-wrong all lent octets a roomed of-all q is), all-long l window out at right long roomy v, right.fits)
+  pub wrong_fits : (q : ℕ) → a ≡ WrongCrc q → l.before + q < 2 ^ 64
+  wrong_fits q is =
+      omega (arith, wrong_crc_place all q (is_wrong all lent octets a roomed of-all q is), all_long l window out at right long roomy v, right.fits)
 
-  pub answers-wrong : (q e : ℕ) (out' : List ℕ) (r : Fed) → a ≡ WrongCrc q → Puts out at (no_text 15 (l.before + q)) e out' → r ≡ stopped l e → Ends r out'
-  answers-wrong q e out' r is p g = gives g (goes-wrong l window out at right long roomy v q e out' (is-wrong all lent octets a roomed of-all q is) p)
+  pub answers_wrong : (q e : ℕ) (out' : List ℕ) (r : Fed) → a ≡ WrongCrc q → Puts out at (no_text 15 (l.before + q)) e out' → r ≡ stopped l e → Ends r out'
+  answers_wrong q e out' r is p g = gives g (goes_wrong l window out at right long roomy v q e out' (is_wrong all lent octets a roomed of-all q is) p)
 
-  pub never-small : a ≡ SmallBuffer → ⊥
-  never-small is = not-small all lent octets a roomed of-all is
+  pub never_small : a ≡ SmallBuffer → ⊥
+  never_small is = not_small all lent octets a roomed of-all is

@@ -15,10 +15,10 @@ use Rattle.line.specs.Kind.{set_of, carries}
 use Rattle.line.specs.Frame.{Shape, drawn, symbols_of}
 use Rattle.line.specs.Read.{Look, found, short, misfit, TakenSet, set_at, nibble_run, end_or, body_at, with_set, shape_behind, ReadFrame, First, frame, wrong_crc, too_short, no_frame, first_of, after_set, first}
 use Rattle.line.specs.Taken.{TakenAs, straight}
-use Rattle.line.proofs.Agreeing.{SetMeans, set_means, taken-set, set_stays}
+use Rattle.line.proofs.Agreeing.{SetMeans, set_means, taken_set, set_stays}
 use Rattle.line.proofs.Bodies.{run}
 use Rattle.line.proofs.Shapes.{drawn_some}
-use Rattle.line.proofs.Exactly.{sealed_shaped, straight-long, frame_exactly, too_short_exactly}
+use Rattle.line.proofs.Exactly.{sealed_shaped, straight_long, frame_exactly, too_short_exactly}
 use Rattle.line.proofs.Tails.{frame_lies}
 use Rattle.reader.specs.Walk.{ends, before, onward, walk}
 use Rattle.reader.proofs.Walking.{walk_goes_on}
@@ -109,11 +109,11 @@ ended_before w x r f few =
     let i = h.1 in
     let same : length (drawn s) ≡ length (symbols_of i.frame) = ap (λ (t : Shape). length (drawn t)) i.seals in
     let some : 4 ≤ length w = omega (arith, same, drawn_some (sealed_shaped i.frame i.whole)) in
-    let set : set_at w ≡ found (record { kind = s.kind; exact = r.exact }) = sym (set_stays w (x ∷ []) some) ∙ taken-set l s.kind r.exact h.0 in
+    let set : set_at w ≡ found (record { kind = s.kind; exact = r.exact }) = sym (set_stays w (x ∷ []) some) ∙ taken_set l s.kind r.exact h.0 in
     let taken : TakenAs w s.kind r.exact = subst (SetMeans w) set (set_means w) in
     let is : straight s.kind w ++ (x ∷ []) ≡ symbols_of i.frame ++ i.rest =
     append_assoc (set_of s.kind) (drop 4 w) (x ∷ []) ∙ ap (λ (y : List ℕ). set_of s.kind ++ y) (sym (drop-append-le 4 w (x ∷ []) some)) ∙ i.is in
-    let long = straight-long w s.kind r.exact taken in
+    let long = straight_long w s.kind r.exact taken in
     (frame_exactly w s r.exact).1 (
       taken,
       record {
@@ -134,7 +134,7 @@ frame_all w x q r e f =
     let taken = ((frame_exactly l s r.exact).0 f).0 in
     let n = simp length-append at (ap length (frame_lies l r f)) in
     let m = length-append w (x ∷ []) in
-    let long = straight-long l s.kind r.exact taken in
+    let long = straight_long l s.kind r.exact taken in
     elim (dec_le (length (drawn s)) (length w)) [
       | yes k ↦
           let z : ◌≡◌ {A = First} (too_short q) (frame r) = sym e ∙ ended_before w x r f k in

@@ -30,7 +30,7 @@ use Rattle.fusb302.specs.declared.device.Outcome.{Outcome}
 use Rattle.fusb302.specs.Queued.{sop_kind}
 use Rattle.fusb302.specs.View.{phase_of, request_of, view, Arranged, Asks, PoweredUp}
 use Rattle.fusb302.specs.Serves.{overlaid}
-use Rattle.fusb302.proofs.Serving.{serves-no, serves-yes}
+use Rattle.fusb302.proofs.Serving.{serves_no, serves_yes}
 use Rattle.fusb302.proofs.Waiting.{phase_reset}
 use Rattle.fusb302.proofs.Outcomes.{reply_of, meant_back}
 use Rattle.lives.specs.Theorems.{Answered}
@@ -142,7 +142,7 @@ pub answered : (e : Event) (d : Device) (before : List ℕ) → Asks d → Fits 
 answered e d before asks fits = go (refusal (view d) e) refl
   where
     go : (o : Option ℕ) → refusal (view d) e ≡ o → Answered e d before
-    go (some n) h = record { outcome = record { device = d; reply = No n; count = 0 }; after = before; serves = serves-no e d before asks n h }
+    go (some n) h = record { outcome = record { device = d; reply = No n; count = 0 }; after = before; serves = serves_no e d before asks n h }
     go none h =
         let good = accepted_good (view d) e asks.good fits h in
         let symbols = joined (accepted (view d) e).frames in
@@ -150,5 +150,5 @@ answered e d before asks fits = go (refusal (view d) e) refl
         record {
           outcome = r;
           after = overlaid symbols before;
-          serves = serves-yes e d before asks h fits r (overlaid symbols before) (made_arranged _ good) (made_back _ good) (meant_back _) refl refl;
+          serves = serves_yes e d before asks h fits r (overlaid symbols before) (made_arranged _ good) (made_back _ good) (meant_back _) refl refl;
         }

@@ -23,7 +23,7 @@ use Rattle.machine.specs.Refusals.{tx_start, port_start, starts, sends_reset, to
 use Rattle.machine.specs.Step.{restored, reset_written, accepted, reply_to, after_read, senses, writes, written, result_of, step}
 use Rattle.machine.specs.Theorems.{is_other, Measuring, bc_lvl_shown, code, ShownExactly, pin_status, pin_interrupts, Reported, AllReported, InterruptsExactly, VoltagesOnly, SwResKeepsVoltages}
 use Rattle.machine.proofs.Masks.{and_or, and_assoc}
-use Rattle.machine.proofs.Checking.{sense-checks}
+use Rattle.machine.proofs.Checking.{sense_checks}
 use Rattle.machine.proofs.Comparing.{changes_within, Kept, kept, shows_same, passes_kept, hears_kept, writes_main, reset_written_lem}
 
 -- ---- 40 by its bits
@@ -273,11 +273,11 @@ pub voltages_only : VoltagesOnly
 unfolding step result_of accepted reply_to senses
 voltages_only s room x y z =
     record {
-      frames = rw (sense-checks s room x y z) (none_left (ltb room frame_room));
-      reply = rw (sense-checks s room x y z) (answer (ltb room frame_room));
+      frames = rw (sense_checks s room x y z) (none_left (ltb room frame_room));
+      reply = rw (sense_checks s room x y z) (answer (ltb room frame_room));
       reported = changes (readings s) (readings (with_pins (record { cc1 = x; cc2 = y; vbus = z }) s));
       only = changes_within (readings s) (readings (with_pins (record { cc1 = x; cc2 = y; vbus = z }) s));
-      state = λ enough. rw (sense-checks s room x y z, le-ltb room frame_room enough) refl;
+      state = λ enough. rw (sense_checks s room x y z, le-ltb room frame_room enough) refl;
     }
   where
     none_left : (b : Bool) → (result_of (cond b (some 12) none) s (sense room x y z)).frames ≡ []

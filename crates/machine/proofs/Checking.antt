@@ -37,31 +37,31 @@ use Rattle.machine.specs.Refusals.{
 }
 
 module _ (s : State) (room : ℕ) where
-  pub read-checks : (a : ℕ)
+  pub read_checks : (a : ℕ)
       → refusal s (read room a)
       ≡ cond (ltb room frame_room) (some 12) (cond (not (exists a)) (some 1) (cond (eqb a fifos && eqb (length s.rx) 0) (some 8) none))
   unfolding refusal first_no no12 no1 no2 no6 no3 no5 no4 no7 no8 no11 no9 no10
-  read-checks a = refl
+  read_checks a = refl
 
-  pub pass-checks : (n : ℕ) → refusal s (pass room n) ≡ cond (ltb room frame_room) (some 12) (cond (ltb 1000 n) (some 10) none)
+  pub pass_checks : (n : ℕ) → refusal s (pass room n) ≡ cond (ltb room frame_room) (some 12) (cond (ltb 1000 n) (some 10) none)
   unfolding refusal first_no no12 no1 no2 no6 no3 no5 no4 no7 no8 no11 no9 no10
-  pass-checks n = refl
+  pass_checks n = refl
 
-  pub reset-checks : refusal s (hard_reset room) ≡ cond (ltb room frame_room) (some 12) none
+  pub reset_checks : refusal s (hard_reset room) ≡ cond (ltb room frame_room) (some 12) none
   unfolding refusal first_no no12 no1 no2 no6 no3 no5 no4 no7 no8 no11 no9 no10
-  reset-checks = refl
+  reset_checks = refl
 
-  pub sense-checks : (x y z : ℕ) → refusal s (sense room x y z) ≡ cond (ltb room frame_room) (some 12) none
+  pub sense_checks : (x y z : ℕ) → refusal s (sense room x y z) ≡ cond (ltb room frame_room) (some 12) none
   unfolding refusal first_no no12 no1 no2 no6 no3 no5 no4 no7 no8 no11 no9 no10
-  sense-checks x y z = refl
+  sense_checks x y z = refl
 
-  pub packet-checks : (k : ℕ) (m : List ℕ)
+  pub packet_checks : (k : ℕ) (m : List ℕ)
       → refusal s (packet room k m)
       ≡ cond (ltb room frame_room) (some 12) (cond (ltb 4 k) (some 11) (cond (ltb (length m) 6 || ltb 34 (length m)) (some 9) none))
   unfolding refusal first_no no12 no1 no2 no6 no3 no5 no4 no7 no8 no11 no9 no10
-  packet-checks k m = refl
+  packet_checks k m = refl
 
-  pub write-checks : (a v : ℕ)
+  pub write_checks : (a v : ℕ)
       → refusal s (write room a v)
       ≡ cond (ltb room frame_room) (some 12)
       (cond (not (exists a) || false) (some 1)
@@ -72,4 +72,4 @@ module _ (s : State) (room : ℕ) where
       (cond (starts s a v && not (is_message (queue_at s a v))) (some 4)
       (cond ((starts s a v || sends_reset a v) && not (driver_on (reg switches1 s))) (some 7) none)))))))
   unfolding refusal first_no no12 no1 no2 no6 no3 no5 no4 no7 no8 no11 no9 no10
-  write-checks a v = refl
+  write_checks a v = refl

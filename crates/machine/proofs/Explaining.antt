@@ -16,7 +16,7 @@ use Rattle.line.specs.Kind.{sop_kinds}
 use Rattle.line.specs.Frame.{Octets, Frame}
 use Rattle.line.specs.Crc.{with_crc, crc_right}
 use Rattle.line.specs.Write.{frame_room}
-use Rattle.line.proofs.Crcs.{payload, octets_crc, crc-right, crc_there, crc_few}
+use Rattle.line.proofs.Crcs.{payload, octets_crc, crc_right_lem, crc_there, crc_few}
 use Rattle.machine.specs.Registers.{switches1, control0, control1, has, AUTO_CRC, AUTO_PRE}
 use Rattle.machine.specs.State.{State, power_up, reg}
 use Rattle.machine.specs.Status.{rx_room}
@@ -30,9 +30,9 @@ use Rattle.machine.specs.Why.{Reason, refused, kind_off, crc_wrong, no_room, is_
 use Rattle.machine.specs.Bench.{w, p, name, fifth, answer}
 use Rattle.machine.specs.Theorems.{AllFit, bit, Enabled, Says, NoneTrue, FirstTrue, NamedExactly, GoodCrcFor, LeavesExactly, AnsweredAfter, EachReasonGiven}
 use Rattle.machine.proofs.Refusing.{same_octets}
-use Rattle.machine.proofs.Checking.{packet-checks}
+use Rattle.machine.proofs.Checking.{packet_checks}
 use Rattle.machine.proofs.Staying.{control_whole}
-use Rattle.machine.proofs.Heading.{control-type, control-objects, control-id}
+use Rattle.machine.proofs.Heading.{control_type, control_objects, control_id}
 use Rattle.machine.proofs.Computing.{computed}
 
 -- ---- the first row that applies, where each row applies exactly when its reason is true
@@ -186,7 +186,7 @@ crc_iff m o = go (crc_right m) refl
 
     go : (b : Bool) → crc_right m ≡ b → (not b ≡ true) ↔ ((l : List ℕ) → m ≡ with_crc l → ⊥)
     go true e = (λ z. absurd (true≢false (sym z)), λ f. absurd (f (payload m) (crc_there m o (long (leb 4 (length m)) refl e) e)))
-    go false e = (λ z l q. true≢false (sym (ap crc_right q ∙ crc-right l) ∙ e), λ f. refl)
+    go false e = (λ z l q. true≢false (sym (ap crc_right q ∙ crc_right_lem l) ∙ e), λ f. refl)
 
 ltb_iff : (a b : ℕ) → (ltb a b ≡ true) ↔ (a < b)
 ltb_iff a b = (ltb-true a b, lt-ltb a b)
@@ -342,27 +342,27 @@ module _ (s : State) (room k : ℕ) (m : List ℕ) where
   abbrev event : Event
   event = packet room k m
 
-  abbrev kindNo : Bool
-  kindNo = ltb 4 k
+  abbrev kind_no : Bool
+  kind_no = ltb 4 k
 
-  abbrev lengthNo : Bool
-  lengthNo = ltb (length m) 6 || ltb 34 (length m)
+  abbrev length_no : Bool
+  length_no = ltb (length m) 6 || ltb 34 (length m)
 
   abbrev named : Option Reason
   named =
       named_by (kind_on k s) (crc_right m) (fits_rx m s) (is_control GoodCRC m) (has AUTO_CRC (reg switches1 s)) (has AUTO_PRE (reg control0 s))
       (driver_on (reg switches1 s))
 
-  why-is : why s k m ≡ cond kindNo (some (refused 11)) (cond lengthNo (some (refused 9)) named)
+  why-is : why s k m ≡ cond kind_no (some (refused 11)) (cond length_no (some (refused 9)) named)
   unfolding why first_cause no11 no9 named_by
   why-is = refl
 
   module _ (lent : frame_room ≤ room) where
-    checks-are : refusal s event ≡ cond kindNo (some 11) (cond lengthNo (some 9) none)
-    checks-are = packet-checks s room k m ∙ simp (le-ltb room frame_room lent)
+    checks-are : refusal s event ≡ cond kind_no (some 11) (cond length_no (some 9) none)
+    checks-are = packet_checks s room k m ∙ simp (le-ltb room frame_room lent)
 
     -- frames and reply go by the tests
-    frames-are : (b c : Bool) → kindNo ≡ b → lengthNo ≡ c
+    frames-are : (b c : Bool) → kind_no ≡ b → length_no ≡ c
         → (step s event).frames ≡ sent_for (cond b (some (refused 11)) (cond c (some (refused 9)) named)) (reply k m s ∷ [])
     unfolding step result_of accepted
     frames-are true c e f = rw (checks-are, e) refl
@@ -370,9 +370,9 @@ module _ (s : State) (room k : ℕ) (m : List ℕ) where
     frames-are false false e f = rw (checks-are, e, f) (hears-frames k m s ∙ heard_sent _ _ _ _ _ _ _ (reply k m s ∷ []))
 
     sent_is : (step s event).frames ≡ sent_for (why s k m) (reply k m s ∷ [])
-    sent_is = frames-are kindNo lengthNo refl refl ∙ ap (λ (o : Option Reason). sent_for o (reply k m s ∷ [])) (sym why-is)
+    sent_is = frames-are kind_no length_no refl refl ∙ ap (λ (o : Option Reason). sent_for o (reply k m s ∷ [])) (sym why-is)
 
-    no-is : (n : ℕ) (b c : Bool) → kindNo ≡ b → lengthNo ≡ c
+    no-is : (n : ℕ) (b c : Bool) → kind_no ≡ b → length_no ≡ c
         → (cond b (some (refused 11)) (cond c (some (refused 9)) named) ≡ some (refused n)) ↔ ((step s event).reply ≡ no n)
     unfolding step result_of reply_to
     no-is n true c e f = rw (checks-are, e) (λ q. cc, λ q. cc)
@@ -394,8 +394,8 @@ the_reply s k m h =
       alone = refl;
       whole = control_whole GoodCRC k sw id h;
       kind = refl;
-      good_crc = (control-type GoodCRC k sw id (omega arith) few, control-objects GoodCRC k sw id (omega arith) few, refl);
-      id = control-id GoodCRC k sw id (omega arith) few;
+      good_crc = (control_type GoodCRC k sw id (omega arith) few, control_objects GoodCRC k sw id (omega arith) few, refl);
+      id = control_id GoodCRC k sw id (omega arith) few;
     }
 
 -- where a reply is there, something left
@@ -408,7 +408,7 @@ is_sop : (s : State) (k : ℕ) (m : List ℕ) → why s k m ≡ none → k < sop
 is_sop s k m e = go (ltb 4 k) refl (sym (why-is s frame_room k m) ∙ e)
   where
     go : (b : Bool) → ltb 4 k ≡ b
-        → cond b (some (refused 11)) (cond (lengthNo s frame_room k m) (some (refused 9)) (named s frame_room k m)) ≡ none → k < sop_kinds
+        → cond b (some (refused 11)) (cond (length_no s frame_room k m) (some (refused 9)) (named s frame_room k m)) ≡ none → k < sop_kinds
     go true h q = let z : ◌≡◌ {A = ℕ} 0 1 = cc in absurd (omega arith)
     go false h q = omega (arith, ltb-false 4 k h)
 
@@ -423,7 +423,7 @@ module _ (s : State) (room k : ℕ) (m : List ℕ) where
   stays r e = go (ltb room frame_room) refl
     where
       go : (b : Bool) → ltb room frame_room ≡ b → (step s (packet room k m)).frames ≡ []
-      go true small = rw (packet-checks s room k m, small) refl
+      go true small = rw (packet_checks s room k m, small) refl
       go false large = sent_is s room k m (ltb-false room frame_room large) ∙ rw e refl
 
 pub leaves_exactly : LeavesExactly

@@ -29,11 +29,11 @@ module _ (type k sw id : ℕ) (small : type < 16) (few : id < 8) where
       let p = role_bit (eqb k 0) (sw / 128 % 2) (mod-lt _ (lit< tt)) in
       record { data_role = d; revision = r; power_role = p; says = omega arith }
 
-  pub control-type : type_of (control type k sw id).octets ≡ type
-  control-type = omega (arith, fields.data_role, fields.revision, fields.power_role, fields.says)
+  pub control_type : type_of (control type k sw id).octets ≡ type
+  control_type = omega (arith, fields.data_role, fields.revision, fields.power_role, fields.says)
 
-  pub control-objects : objects (control type k sw id).octets ≡ 0
-  control-objects = omega (arith, fields.data_role, fields.revision, fields.power_role, fields.says)
+  pub control_objects : objects (control type k sw id).octets ≡ 0
+  control_objects = omega (arith, fields.data_role, fields.revision, fields.power_role, fields.says)
 
-  pub control-id : message_id (control type k sw id).octets ≡ id
-  control-id = omega (arith, fields.data_role, fields.revision, fields.power_role, fields.says)
+  pub control_id : message_id (control type k sw id).octets ≡ id
+  control_id = omega (arith, fields.data_role, fields.revision, fields.power_role, fields.says)

@@ -61,9 +61,9 @@ power_up_good =
 -- ---- a part replaced
 
 module _ (s : State) (g : Good s) where
-  pub keeps-cells : (a v : ℕ) → Good (with_cells (stored a v s.cells) s)
+  pub keeps_cells : (a v : ℕ) → Good (with_cells (stored a v s.cells) s)
   unfolding stored
-  keeps-cells a v =
+  keeps_cells a v =
       record {
         cells = cells_set stored_bits s.cells (a - 2) v g.cells;
         tx = g.tx;
@@ -80,8 +80,8 @@ module _ (s : State) (g : Good s) where
       }
 
   -- queue and request together, since they hang together
-  pub keeps-queue : (q : List ℕ) (r : Option Request) → Octets q → length q ≤ tx_room → OpenGood r q → Good (with_tx q (with_request r s))
-  keeps-queue q r o h p =
+  pub keeps_queue : (q : List ℕ) (r : Option Request) → Octets q → length q ≤ tx_room → OpenGood r q → Good (with_tx q (with_request r s))
+  keeps_queue q r o h p =
       record {
         cells = g.cells;
         tx = o;
@@ -97,8 +97,8 @@ module _ (s : State) (g : Good s) where
         pins = g.pins;
       }
 
-  pub keeps-rx : (q : List ℕ) → Octets q → length q ≤ rx_room → Good (with_rx q s)
-  keeps-rx q o h =
+  pub keeps_rx : (q : List ℕ) → Octets q → length q ≤ rx_room → Good (with_rx q s)
+  keeps_rx q o h =
       record {
         cells = g.cells;
         tx = g.tx;
@@ -114,8 +114,8 @@ module _ (s : State) (g : Good s) where
         pins = g.pins;
       }
 
-  pub keeps-status : (x : Status) → Within 0x33 x.status0a → KindGood x.kind → Good (with_status x s)
-  keeps-status x h k =
+  pub keeps_status : (x : Status) → Within 0x33 x.status0a → KindGood x.kind → Good (with_status x s)
+  keeps_status x h k =
       record {
         cells = g.cells;
         tx = g.tx;
@@ -131,8 +131,8 @@ module _ (s : State) (g : Good s) where
         pins = g.pins;
       }
 
-  pub keeps-ints : (x : Interrupts) → Within 0x3F x.a → Within 0x01 x.b → Within 0xB9 x.main → Good (with_ints x s)
-  keeps-ints x h k m =
+  pub keeps_ints : (x : Interrupts) → Within 0x3F x.a → Within 0x01 x.b → Within 0xB9 x.main → Good (with_ints x s)
+  keeps_ints x h k m =
       record {
         cells = g.cells;
         tx = g.tx;
@@ -148,8 +148,8 @@ module _ (s : State) (g : Good s) where
         pins = g.pins;
       }
 
-  pub keeps-pins : (x : Pins) → PinsGood x → Good (with_pins x s)
-  keeps-pins x h =
+  pub keeps_pins : (x : Pins) → PinsGood x → Good (with_pins x s)
+  keeps_pins x h =
       record {
         cells = g.cells;
         tx = g.tx;
@@ -168,43 +168,43 @@ module _ (s : State) (g : Good s) where
 -- ---- what the definitions do to a part
 
 module _ (s : State) (g : Good s) where
-  pub keeps-over : Good (over s)
-  keeps-over = keeps-queue s g [] none tt (omega arith) tt
+  pub keeps_over : Good (over s)
+  keeps_over = keeps_queue s g [] none tt (omega arith) tt
 
-  pub keeps-request : (q : Request) → RequestGood q s.tx → Good (with_request (some q) s)
-  keeps-request q h = keeps-queue s g s.tx (some q) g.tx g.tx_few h
+  pub keeps_request : (q : Request) → RequestGood q s.tx → Good (with_request (some q) s)
+  keeps_request q h = keeps_queue s g s.tx (some q) g.tx g.tx_few h
 
-  pub keeps-shows : (m : ℕ) → Within 0x33 m → Good (shows m s)
-  keeps-shows m h = keeps-status s g _ (within_more 0x33 s.status.status0a m g.status0a h) g.kind
+  pub keeps_shows : (m : ℕ) → Within 0x33 m → Good (shows m s)
+  keeps_shows m h = keeps_status s g _ (within_more 0x33 s.status.status0a m g.status0a h) g.kind
 
-  pub keeps-hides : (m : ℕ) → Good (hides m s)
-  keeps-hides m = keeps-status s g _ (within_less 0x33 (0xFF - m) s.status.status0a g.status0a) g.kind
+  pub keeps_hides : (m : ℕ) → Good (hides m s)
+  keeps_hides m = keeps_status s g _ (within_less 0x33 (0xFF - m) s.status.status0a g.status0a) g.kind
 
-  pub keeps-crc-chk : (b : Bool) → Good (with_crc_chk b s)
-  keeps-crc-chk b = keeps-status s g _ g.status0a g.kind
+  pub keeps_crc_chk : (b : Bool) → Good (with_crc_chk b s)
+  keeps_crc_chk b = keeps_status s g _ g.status0a g.kind
 
-  pub keeps-kind : (k : ℕ) → k < sop_kinds → Good (with_kind k s)
-  keeps-kind k h = keeps-status s g _ g.status0a h
+  pub keeps_kind : (k : ℕ) → k < sop_kinds → Good (with_kind k s)
+  keeps_kind k h = keeps_status s g _ g.status0a h
 
-  pub keeps-raises-a : (m : ℕ) → Within 0x3F m → Good (raises_a m s)
-  keeps-raises-a m h = keeps-ints s g _ (within_more 0x3F s.ints.a m g.interrupta h) g.interruptb g.interrupt
+  pub keeps_raises_a : (m : ℕ) → Within 0x3F m → Good (raises_a m s)
+  keeps_raises_a m h = keeps_ints s g _ (within_more 0x3F s.ints.a m g.interrupta h) g.interruptb g.interrupt
 
-  pub keeps-raises-b : (m : ℕ) → Within 0x01 m → Good (raises_b m s)
-  keeps-raises-b m h = keeps-ints s g _ g.interrupta (within_more 0x01 s.ints.b m g.interruptb h) g.interrupt
+  pub keeps_raises_b : (m : ℕ) → Within 0x01 m → Good (raises_b m s)
+  keeps_raises_b m h = keeps_ints s g _ g.interrupta (within_more 0x01 s.ints.b m g.interruptb h) g.interrupt
 
-  pub keeps-raises : (m : ℕ) → Within 0xB9 m → Good (raises m s)
-  keeps-raises m h = keeps-ints s g _ g.interrupta g.interruptb (within_more 0xB9 s.ints.main m g.interrupt h)
+  pub keeps_raises : (m : ℕ) → Within 0xB9 m → Good (raises m s)
+  keeps_raises m h = keeps_ints s g _ g.interrupta g.interruptb (within_more 0xB9 s.ints.main m g.interrupt h)
 
-  pub keeps-cleared : (r : ℕ) → Good (with_ints (cleared_at r s.ints) s)
+  pub keeps_cleared : (r : ℕ) → Good (with_ints (cleared_at r s.ints) s)
   unfolding cleared_at
-  keeps-cleared r =
-      keeps-ints s g _ (either 0x3F s.ints.a g.interrupta (eqb r interrupta)) (either 0x01 s.ints.b g.interruptb (eqb r interruptb))
+  keeps_cleared r =
+      keeps_ints s g _ (either 0x3F s.ints.a g.interrupta (eqb r interrupta)) (either 0x01 s.ints.b g.interruptb (eqb r interruptb))
       (either 0xB9 s.ints.main g.interrupt (eqb r interrupt))
     where
       either : (m x : ℕ) → Within m x → (b : Bool) → Within m (cond b 0 x)
       either m x h true = within_zero m
       either m x h false = h
 
-  pub keeps-when : (b : Bool) (f : State → State) → Good (f s) → Good (only_if b f s)
-  keeps-when true f h = h
-  keeps-when false f h = g
+  pub keeps_when : (b : Bool) (f : State → State) → Good (f s) → Good (only_if b f s)
+  keeps_when true f h = h
+  keeps_when false f h = g

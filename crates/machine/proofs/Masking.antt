@@ -124,10 +124,10 @@ module _ (d : List ℕ) where
   unfolding elapses expires
   elapses-with w q s = simp (with-if, with-sends, fails-with)
 
-  pub passes-with : (n : ℕ) (o : Option Request) (s : State) → passes n o (with_cells d s) ≡ With (passes n o s)
+  pub passes_with : (n : ℕ) (o : Option Request) (s : State) → passes n o (with_cells d s) ≡ With (passes n o s)
   unfolding passes
-  passes-with n none s = refl
-  passes-with n (some q) s = elapses-with (q.waited + n) q s
+  passes_with n none s = refl
+  passes_with n (some q) s = elapses-with (q.waited + n) q s
 
   module _ (s : State) (same : Agree s.cells d) where
     start-with : start (with_cells d s) ≡ With (start s)
@@ -299,7 +299,7 @@ module _ (s : State) (d : List ℕ) (h : cleared s.cells ≡ cleared d) where
           ≡ with_cells c (cond b (with_rx (drop 1 s.rx) s) (with_ints (cleared_at a s.ints) s))
       go c true = refl
       go c false = refl
-  accepted-same (pass r n) = same-with s d h (λ (u : State). passes n u.request u) (λ c g. passes-with c n s.request s)
+  accepted-same (pass r n) = same-with s d h (λ (u : State). passes n u.request u) (λ c g. passes_with c n s.request s)
   accepted-same (hard_reset r) = same-with s d h (λ (u : State). silent (hard_reset_heard u)) (λ c g. refl)
   accepted-same (packet r k m) = same-with s d h (hears k m) (λ c g. hears-with c s g k m)
   accepted-same (sense r x y z) =

@@ -78,10 +78,10 @@ module _ (s : State) (room v : ℕ) (enough : frame_room ≤ room) (free : s.req
       exists is_stored read_only tx_start port_start starts sends_reset to_be_stored queue_at
   port-refusal = simp (le-ltb room frame_room enough, free, or-false)
 
-  pub stored-step : storable (to_come 0 s.tx) v ≡ true → length s.tx < tx_room
+  pub stored_step : storable (to_come 0 s.tx) v ≡ true → length s.tx < tx_room
       → ((step s (write room fifos v)).state ≡ queues v s) × ((step s (write room fifos v)).frames ≡ [])
   unfolding step result_of accepted port_written port_start inside
-  stored-step e h =
+  stored_step e h =
       let b = stored_no (inside s.tx) (is_token v) (eqb v START) (is_message s.tx) (driver_on (reg switches1 s)) e in
       let taken : refusal s (write room fifos v) ≡ none = rw (port-refusal, lt-leb tx_room (length s.tx) h) b.0 in
       (rw (taken, port_written_lem v s, b.1), rw (taken, port_written_lem v s, b.1))
@@ -113,7 +113,7 @@ module _ (room : ℕ) (enough : frame_room ≤ room) where
   unfolding writing after frames
   all-stored [] q s r a h = (rw append-nil r, λ es. refl)
   all-stored (v ∷ l) q s r a h =
-      let p = stored-step s room v enough r.free (rw r.holds a.0) (rw r.holds (omega arith)) in
+      let p = stored_step s room v enough r.free (rw r.holds a.0) (rw r.holds (omega arith)) in
       let next : Ready (step s (write room fifos v)).state (q ++ (v ∷ [])) = rw p.0 (queued s q v r) in
       let ih = all-stored l (q ++ (v ∷ [])) _ next (rw to_come_append a.1) (simp length-append (omega arith)) in
       (rw append_assoc at ih.0, λ es. rw p.1 (ih.1 es))

@@ -24,7 +24,7 @@ use Rattle.machine.specs.Step.{Result, restored, pd_reset, queues, control0_writ
 use Rattle.machine.specs.Theorems.{SoftResetSays, Resetting, OneStart, Whence, begun, continued, followed, ResetsOnKind, Acknowledges, HeardRight, ResetAnswered}
 use Rattle.machine.proofs.Refusing.{first_none_exactly}
 use Rattle.machine.proofs.Staying.{control_whole}
-use Rattle.machine.proofs.Heading.{Fields, fields, control-id}
+use Rattle.machine.proofs.Heading.{Fields, fields, control_id}
 use Rattle.machine.proofs.Receiving.{accepts_leaves, awaited_ends}
 use Rattle.machine.proofs.Retrying.{has_set, has_other, resets_after_start}
 
@@ -34,8 +34,8 @@ module _ (k : ℕ) (q : Request) where
   of-reset : Fields Soft_Reset k q.switches1 0 (omega arith) (omega arith)
   of-reset = fields Soft_Reset k q.switches1 0 (omega arith) (omega arith)
 
-  pub reset-id : message_id (soft_reset_of k q).octets ≡ 0
-  reset-id = control-id Soft_Reset k q.switches1 0 (omega arith) (omega arith)
+  pub reset_id : message_id (soft_reset_of k q).octets ≡ 0
+  reset_id = control_id Soft_Reset k q.switches1 0 (omega arith) (omega arith)
 
 pub soft_reset_says : SoftResetSays
 unfolding two_octets
@@ -53,7 +53,7 @@ soft_reset_says k q h =
       data_role = omega arith;
       revision = omega arith;
       power_role = omega arith;
-      id = reset-id k q;
+      id = reset_id k q;
       count = omega arith;
       bit_15 = omega arith;
     }
@@ -316,7 +316,7 @@ module _ (s : State) (k : ℕ) (r : Resetting s k) (j : ℕ) (m : List ℕ) wher
   awaits : awaited j m s ≡ (is_control GoodCRC m && (eqb k j && eqb 0 (message_id m)))
   unfolding awaited_by flight_in
   awaits =
-      rw (r.is, r.phase) (ap (λ (i : ℕ). is_control GoodCRC m && (eqb k j && eqb i (message_id m))) (reset-id k r.request))
+      rw (r.is, r.phase) (ap (λ (i : ℕ). is_control GoodCRC m && (eqb k j && eqb i (message_id m))) (reset_id k r.request))
 
   awaits-it : (room : ℕ) → Acknowledges s room k j m → awaited j m s ≡ true
   awaits-it room h = awaits ∙ rw (h.good_crc, h.kind, h.id, eq-eqb k k refl) refl

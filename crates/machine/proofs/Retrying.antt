@@ -145,9 +145,9 @@ module _ (q : Request) (f : Frame) (base : State) where
       unfolding elapses expires fails message_fails
       message-resets soft spells = rw (le-ltb t wait long, le-ltb k q.retries last, soft, spells) refl
 
-      message-ends : q.soft ≡ false → Comes message k w t s (silent (failed s))
+      message_ends : q.soft ≡ false → Comes message k w t s (silent (failed s))
       unfolding elapses expires fails message_fails
-      message-ends soft = rw (le-ltb t wait long, le-ltb k q.retries last, soft) refl
+      message_ends soft = rw (le-ltb t wait long, le-ltb k q.retries last, soft) refl
 
       reset-hard : q.hard ≡ true → Comes (soft_reset f.kind) k w t s (sends hard_reset_frame (raises_a I_HARDSENT (soft_failed s)))
       unfolding elapses expires fails soft_fails
@@ -188,7 +188,7 @@ module _ (q : Request) (f : Frame) (base : State) where
             let z = ltb-false t wait e in
             let y = ltb-false k q.retries g in
             let last : q.retries ≡ k = omega arith in
-            goes_by (n + m) fs (message-ends k w t z base y h) (sent-as (message_over h (omega arith)) (rw last (sym (append-nil fs))))
+            goes_by (n + m) fs (message_ends k w t z base y h) (sent-as (message_over h (omega arith)) (rw last (sym (append-nil fs))))
 
     reset-goes : q.soft ≡ true → n ≡ end_of q + (k * wait + w)
         → Goes (n + m) (replicate (suc q.retries) f ++ replicate (suc k) (soft_reset_of f.kind q))

@@ -132,22 +132,22 @@ use Rattle.machine.proofs.Refusing.{first_none_exactly}
 use Rattle.machine.proofs.Spelling.{spelt_exactly, spelt_whole}
 use Rattle.machine.proofs.Keeping.{
   power_up_good,
-  keeps-cells,
-  keeps-queue,
-  keeps-rx,
-  keeps-status,
-  keeps-over,
-  keeps-request,
-  keeps-shows,
-  keeps-hides,
-  keeps-crc-chk,
-  keeps-kind,
-  keeps-raises-a,
-  keeps-raises-b,
-  keeps-raises,
-  keeps-cleared,
-  keeps-pins,
-  keeps-when,
+  keeps_cells,
+  keeps_queue,
+  keeps_rx,
+  keeps_status,
+  keeps_over,
+  keeps_request,
+  keeps_shows,
+  keeps_hides,
+  keeps_crc_chk,
+  keeps_kind,
+  keeps_raises_a,
+  keeps_raises_b,
+  keeps_raises,
+  keeps_cleared,
+  keeps_pins,
+  keeps_when,
 }
 
 -- ---- what is to be shown of each effect
@@ -201,7 +201,7 @@ start_fine : (s : State) → Good s → is_message s.tx ≡ true → Fine (start
 unfolding start latched cell
 start_fine s g h =
     sent_if (spelt s.tx) _ (λ f e. spelt_whole s.tx f g.tx e)
-    (keeps-request _ (keeps-hides s g fail_bits) (latched s)
+    (keeps_request _ (keeps_hides s g fail_bits) (latched s)
     (record {
       octet = omega (arith, within_le 0xF7 (reg switches1 s) (cells_at stored_bits s.cells 1 g.cells));
       few = few_retries (reg control3 s);
@@ -224,24 +224,24 @@ module _ (s : State) (g : Good s) (q : Request) (r : RequestGood q s.tx) where
   resets-fine w h (some f) is t empty good =
       let kind = ((spelt_exactly s.tx f).0 is).sop in
       sent _ _ (control_whole _ _ q.switches1 0 (omega (arith, kind)))
-      (keeps-request t good _
+      (keeps_request t good _
       (record { octet = r.octet; few = r.few; sent = omega arith; waited = h; phase = (omega (arith, kind), empty) }))
 
   fails-fine : (p : Phase) (w : ℕ) → w < wait → Fine (fails p w q s)
   unfolding fails message_fails soft_fails
   fails-fine Phase.message w h =
-      let t = keeps-raises-a _ (keeps-shows _ (keeps-over s g) RETRYFAIL refl) I_RETRYFAIL refl in
+      let t = keeps_raises_a _ (keeps_shows _ (keeps_over s g) RETRYFAIL refl) I_RETRYFAIL refl in
       by_test q.soft _ _ (λ e. resets-fine w h (spelt s.tx) refl _ refl t) (λ e. quiet _ t)
   fails-fine (soft_reset k) w h =
-      let t = keeps-raises-a _ (keeps-shows _ (keeps-over s g) SOFTFAIL refl) I_SOFTFAIL refl in
-      by_test q.hard _ _ (λ e. sent hard_reset_frame _ reset_whole (keeps-raises-a _ t I_HARDSENT refl)) (λ e. quiet _ t)
+      let t = keeps_raises_a _ (keeps_shows _ (keeps_over s g) SOFTFAIL refl) I_SOFTFAIL refl in
+      by_test q.hard _ _ (λ e. sent hard_reset_frame _ reset_whole (keeps_raises_a _ t I_HARDSENT refl)) (λ e. quiet _ t)
 
   expires-fine : (w : ℕ) → w < wait → Fine (expires w q s)
   unfolding expires
   expires-fine w h =
       by_test (ltb q.sent q.retries) _ _
       (λ e. sent_if (flight s q) _ (flight_whole q.phase q s.tx g.tx r.phase)
-      (keeps-request s g (goes_on q.phase (suc q.sent) w q)
+      (keeps_request s g (goes_on q.phase (suc q.sent) w q)
       (record { octet = r.octet; few = r.few; sent = ltb-true q.sent q.retries e; waited = h; phase = r.phase })))
       (λ e. fails-fine q.phase w h)
 
@@ -250,7 +250,7 @@ module _ (s : State) (g : Good s) (q : Request) (r : RequestGood q s.tx) where
   elapses-fine w h =
       by_test (ltb w wait) _ _
       (λ e. quiet _
-      (keeps-request s g (goes_on q.phase q.sent w q)
+      (keeps_request s g (goes_on q.phase q.sent w q)
       (record { octet = r.octet; few = r.few; sent = r.sent; waited = ltb-true w wait e; phase = r.phase })))
       (λ e. let z = ltb-false w wait e in expires-fine (w - wait) (omega arith))
 
@@ -275,30 +275,30 @@ module _ (k : ℕ) (m : List ℕ) (kind : k < sop_kinds) (octets : Octets m) whe
   kept s g h =
       let q = s.rx ++ (rx_token k ∷ m) in
       let n : length q ≤ rx_room = omega (arith, length-append s.rx (rx_token k ∷ m), leb-true (length s.rx + suc (length m)) rx_room h) in
-      let t = keeps-kind _ (keeps-rx s g q (octets_append s.rx (rx_token k ∷ m) g.rx (token_octet k, octets)) n) k kind in
-      keeps-when _ t (rx_full (with_rx q s)) (raises I_ALERT) (keeps-raises _ t I_ALERT refl)
+      let t = keeps_kind _ (keeps_rx s g q (octets_append s.rx (rx_token k ∷ m) g.rx (token_octet k, octets)) n) k kind in
+      keeps_when _ t (rx_full (with_rx q s)) (raises I_ALERT) (keeps_raises _ t I_ALERT refl)
 
   stores-fine : (s : State) → Good s → fits_rx m s ≡ true → Fine (stores k m s)
   unfolding stores
   stores-fine s g h =
       let t = kept s g h in
       by_test (replies_to m s) _ _
-      (λ e. sent _ _ (control_whole GoodCRC k (reg switches1 s) (message_id m) kind) (keeps-raises-b _ t I_GCRCSENT refl))
+      (λ e. sent _ _ (control_whole GoodCRC k (reg switches1 s) (message_id m) kind) (keeps_raises_b _ t I_GCRCSENT refl))
       (λ e. quiet _ t)
 
   accepts-fine : (s : State) → Good s → Fine (accepts k m s)
   unfolding accepts
   accepts-fine s g =
-      let a = keeps-raises _ (keeps-crc-chk s g true) I_CRC_CHK refl in
-      let b = keeps-when _ a (awaited k m s) acknowledged (keeps-raises-a _ (keeps-over _ a) I_TXSENT refl) in
-      let c = keeps-when _ b (is_control Soft_Reset m) soft_reset_heard (keeps-raises-a _ (keeps-shows _ b SOFTRST refl) I_SOFTRST refl) in
-      by_test (fits_rx m (noted k m s)) _ _ (λ e. stores-fine (noted k m s) c e) (λ e. quiet _ (keeps-raises _ c I_ALERT refl))
+      let a = keeps_raises _ (keeps_crc_chk s g true) I_CRC_CHK refl in
+      let b = keeps_when _ a (awaited k m s) acknowledged (keeps_raises_a _ (keeps_over _ a) I_TXSENT refl) in
+      let c = keeps_when _ b (is_control Soft_Reset m) soft_reset_heard (keeps_raises_a _ (keeps_shows _ b SOFTRST refl) I_SOFTRST refl) in
+      by_test (fits_rx m (noted k m s)) _ _ (λ e. stores-fine (noted k m s) c e) (λ e. quiet _ (keeps_raises _ c I_ALERT refl))
 
   hears-fine : (s : State) → Good s → Fine (hears k m s)
   unfolding hears
   hears-fine s g =
       by_test (kind_on k s) _ _
-      (λ e. by_test (crc_right m) _ _ (λ e. accepts-fine s g) (λ e. quiet _ (keeps-crc-chk s g false)))
+      (λ e. by_test (crc_right m) _ _ (λ e. accepts-fine s g) (λ e. quiet _ (keeps_crc_chk s g false)))
       (λ e. quiet s g)
 
 -- ---- writes
@@ -316,7 +316,7 @@ port_cases false true false m l a b c = (λ e. let z : ◌≡◌ {A = ℕ} 0 1 =
 port_cases false false st m l a b c = let z : ◌≡◌ {A = ℕ} 0 1 = cc in absurd (omega arith)
 
 reports_good : (s t : State) → Good t → Good (reports s t)
-reports_good s t g = keeps-raises t g _ (within_wider pin_interrupts 0xB9 _ (changes_within (readings s) (readings t)) refl)
+reports_good s t g = keeps_raises t g _ (within_wider pin_interrupts 0xB9 _ (changes_within (readings s) (readings t)) refl)
 
 no_request : (o : Option Request) (tx : List ℕ) → is_some o ≡ false → OpenGood o tx
 no_request none tx e = tt
@@ -333,19 +333,19 @@ module _ (s : State) (g : Good s) (room v : ℕ) (octet : v < 256) where
       (λ e.
       let q = s.tx ++ (v ∷ []) in
       let n : length q ≤ tx_room = omega (arith, length-append s.tx (v ∷ []), leb-false tx_room (length s.tx) (c.1 e)) in
-      let t = keeps-queue s g q s.request (octets_append s.tx (v ∷ []) g.tx (octet, tt)) n (no_request s.request q rows.1.1.1.0) in
-      quiet _ (keeps-when _ t (tx_full (with_tx q s)) (raises I_ALERT) (keeps-raises _ t I_ALERT refl)))
+      let t = keeps_queue s g q s.request (octets_append s.tx (v ∷ []) g.tx (octet, tt)) n (no_request s.request q rows.1.1.1.0) in
+      quiet _ (keeps_when _ t (tx_full (with_tx q s)) (raises I_ALERT) (keeps_raises _ t I_ALERT refl)))
 
   -- the state with the register stored
   module _ (a : ℕ) where
     kept-cells : Good (with_cells (stored a v s.cells) s)
-    kept-cells = keeps-cells s g a v
+    kept-cells = keeps_cells s g a v
 
   control0-fine : NoneApplies (table s (write room control0 v)) → Fine (control0_written v (with_cells (stored control0 v s.cells) s))
   unfolding control0_written starts tx_start port_start queue_at no4
   control0-fine rows =
       let t = kept-cells control0 in
-      let u = keeps-when _ t (has TX_FLUSH v) over (keeps-over _ t) in
+      let u = keeps_when _ t (has TX_FLUSH v) over (keeps_over _ t) in
       by_test (has TX_START v) _ _
       (λ e. start_fine _ u (flushed (has TX_FLUSH v) (not_false _ (sym (ap (λ (b : Bool). (b || false) && not (is_message (queue_at s control0 v))) e) ∙ rows.1.1.1.1.1.1.0))))
       (λ e. quiet _ u)
@@ -361,17 +361,17 @@ module _ (s : State) (g : Good s) (room v : ℕ) (octet : v < 256) where
       by_test (eqb a control0) _ _
       (λ e. let is = eqb-true a control0 e in subst (λ (x : ℕ). Fine (control0_written v (with_cells (stored x v s.cells) s))) (sym is) (control0-fine (subst (λ (x : ℕ). NoneApplies (table s (write room x v))) is rows)))
       (λ e. by_test (eqb a control1) _ _
-      (λ e. quiet _ (keeps-when _ t (has RX_FLUSH v) (with_rx []) (keeps-rx _ t [] tt (omega arith))))
+      (λ e. quiet _ (keeps_when _ t (has RX_FLUSH v) (with_rx []) (keeps_rx _ t [] tt (omega arith))))
       (λ e. by_test (eqb a control3) _ _
       (λ e. by_test (has SEND_HARD_RESET v) _ _
-      (λ e. sent hard_reset_frame _ reset_whole (keeps-raises-a _ (keeps-hides _ (keeps-over _ t) fail_bits) I_HARDSENT refl))
+      (λ e. sent hard_reset_frame _ reset_whole (keeps_raises_a _ (keeps_hides _ (keeps_over _ t) fail_bits) I_HARDSENT refl))
       (λ e. quiet _ t))
       (λ e. by_test (eqb a reset) _ _
-      (λ e. quiet _ (restarts (has SW_RES v) (keeps-when _ t (has PD_RESET v) pd_reset (keeps-rx _ (keeps-status _ (keeps-over _ t) cleared refl tt) [] tt (omega arith)))))
+      (λ e. quiet _ (restarts (has SW_RES v) (keeps_when _ t (has PD_RESET v) pd_reset (keeps_rx _ (keeps_status _ (keeps_over _ t) cleared refl tt) [] tt (omega arith)))))
       (λ e. quiet _ t))))
     where
       restarts : (b : Bool) {u : State} → Good u → Good (cond b (with_pins s.pins power_up) u)
-      restarts true h = keeps-pins power_up power_up_good s.pins g.pins
+      restarts true h = keeps_pins power_up power_up_good s.pins g.pins
       restarts false h = h
 
   writes-fine : (a : ℕ) → NoneApplies (table s (write room a v)) → Fine (writes a v s)
@@ -398,8 +398,8 @@ unfolding after_read
 reads_fine s g a = go (eqb a fifos)
   where
     go : (b : Bool) → Good (cond b (with_rx (drop 1 s.rx) s) (with_ints (cleared_at a s.ints) s))
-    go true = keeps-rx s g (drop 1 s.rx) (octets_drop 1 s.rx g.rx) (omega (arith, length-drop 1 s.rx, g.rx_few))
-    go false = keeps-cleared s g a
+    go true = keeps_rx s g (drop 1 s.rx) (octets_drop 1 s.rx g.rx) (omega (arith, length-drop 1 s.rx, g.rx_few))
+    go false = keeps_cleared s g a
 
 accepted_fine : (s : State) (e : Event) → Good s → Fits e → NoneApplies (table s e) → Fine (accepted s e)
 unfolding accepted hard_reset_heard senses no10 no11
@@ -407,12 +407,12 @@ accepted_fine s (write r a v) g f rows = written-fine s g r v f.1 a rows
 accepted_fine s (read r a) g f rows = quiet _ (reads_fine s g a)
 accepted_fine s (pass r n) g f rows =
     passes_fine s g n (ltb-false 1000 n rows.1.1.1.1.1.1.1.1.1.1.1.0) s.request g.request
-accepted_fine s (hard_reset r) g f rows = quiet _ (keeps-raises-a _ (keeps-shows _ (keeps-over s g) HARDRST refl) I_HARDRST refl)
+accepted_fine s (hard_reset r) g f rows = quiet _ (keeps_raises_a _ (keeps_shows _ (keeps_over s g) HARDRST refl) I_HARDRST refl)
 accepted_fine s (packet r k m) g f rows =
     hears-fine k m (let z = ltb-false 4 k rows.1.1.1.1.1.1.1.1.1.0 in omega arith) f.1 s g
 accepted_fine s (sense r x y z) g f rows =
     let p : Pins = record { cc1 = x; cc2 = y; vbus = z } in
-    quiet _ (reports_good s (with_pins p s) (keeps-pins s g p (record { cc1 = f.0; cc2 = f.1.0; vbus = f.1.1 })))
+    quiet _ (reports_good s (with_pins p s) (keeps_pins s g p (record { cc1 = f.0; cc2 = f.1.0; vbus = f.1.1 })))
 
 pub step_fine : (s : State) (e : Event) → Good s → Fits e → Fine (record { state = (step s e).state; frames = (step s e).frames })
 unfolding step result_of refusal

@@ -24,8 +24,8 @@ use Rattle.machine.specs.Step.{queues, accepted, result_of, step, after, frames}
 use Rattle.machine.specs.Good.{OpenGood}
 use Rattle.machine.specs.Theorems.{DataIsData, LatchedGoverns, TimeAdds, CommandsNotStored}
 use Rattle.machine.proofs.Masks.{outside, cells_at}
-use Rattle.machine.proofs.Masking.{passes-with}
-use Rattle.machine.proofs.Messages.{stored-step}
+use Rattle.machine.proofs.Masking.{passes_with}
+use Rattle.machine.proofs.Messages.{stored_step}
 use Rattle.machine.proofs.Retrying.{pass_step, before_the_end, past_the_end}
 
 -- ---- data
@@ -41,7 +41,7 @@ queued_tx s v = go (tx_full (with_tx (s.tx ++ (v ∷ [])) s))
 pub data_is_data : DataIsData
 unfolding inside
 data_is_data s room v enough i free h =
-    let p = stored-step s room v enough free (rw i refl) h in
+    let p = stored_step s room v enough free (rw i refl) h in
     (ap (λ (t : State). t.tx) p.0 ∙ queued_tx s v, p.1)
 
 -- ---- time: registers have no part in it
@@ -54,7 +54,7 @@ latched_governs s cells room n = go (refusal s (pass room n))
         → ((result_of o (with_cells cells s) (pass room n)).frames ≡ (result_of o s (pass room n)).frames)
         × ((result_of o (with_cells cells s) (pass room n)).state.request ≡ (result_of o s (pass room n)).state.request)
     go (some k) = (refl, refl)
-    go none = let same = passes-with cells n s.request s in (ap (λ (x : Effect). x.frames) same, ap (λ (x : Effect). x.state.request) same)
+    go none = let same = passes_with cells n s.request s in (ap (λ (x : Effect). x.frames) same, ap (λ (x : Effect). x.state.request) same)
 
 -- ---- time: two parts are one
 

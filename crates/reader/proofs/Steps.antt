@@ -11,9 +11,9 @@ use Rattle.line.specs.Reader.{said, behind, Reads}
 use Rattle.reader.specs.Step.{Steps}
 
 module _ (line : List ℕ) (at : ℕ) (before after : List ℕ) (a : Answer) (r : Reads line at before a after) where
-  pub step-on : (k : ℕ) (exact : Bool) (n : ℕ) (c : Cursor) → a ≡ Frame k exact n c → Steps line at before (Frame k exact n c) after c.at
+  pub step_on : (k : ℕ) (exact : Bool) (n : ℕ) (c : Cursor) → a ≡ Frame k exact n c → Steps line at before (Frame k exact n c) after c.at
   unfolding behind
-  step-on k exact n c e = record { reads = subst (λ (x : Answer). Reads line at before x after) e r; moves = refl }
+  step_on k exact n c e = record { reads = subst (λ (x : Answer). Reads line at before x after) e r; moves = refl }
 
   stays : (b : Answer) → a ≡ b → at ≡ behind at (said b) → Steps line at before a after at
   stays b e m = record { reads = r; moves = subst (λ (x : Answer). at ≡ behind at (said x)) (sym e) m }
@@ -22,14 +22,14 @@ module _ (line : List ℕ) (at : ℕ) (before after : List ℕ) (a : Answer) (r 
   unfolding behind
   step_small e = stays SmallBuffer e refl
 
-  pub step-none : (p : ℕ) → a ≡ NoFrame p → Steps line at before a after at
+  pub step_none : (p : ℕ) → a ≡ NoFrame p → Steps line at before a after at
   unfolding behind
-  step-none p e = stays (NoFrame p) e refl
+  step_none p e = stays (NoFrame p) e refl
 
-  pub step-short : (p : ℕ) → a ≡ TooShort p → Steps line at before a after at
+  pub step_short : (p : ℕ) → a ≡ TooShort p → Steps line at before a after at
   unfolding behind
-  step-short p e = stays (TooShort p) e refl
+  step_short p e = stays (TooShort p) e refl
 
-  pub step-wrong : (p : ℕ) → a ≡ WrongCrc p → Steps line at before a after at
+  pub step_wrong : (p : ℕ) → a ≡ WrongCrc p → Steps line at before a after at
   unfolding behind
-  step-wrong p e = stays (WrongCrc p) e refl
+  step_wrong p e = stays (WrongCrc p) e refl

@@ -11,7 +11,7 @@ use Rattle.line.specs.Frame.{Shape, drawn, sealed, symbols_of, joined}
 use Rattle.line.specs.Read.{set_at, ReadFrame, exact_frame, First, frame, wrong_crc, too_short, no_frame, after_set, first}
 use Rattle.line.specs.Taken.{Exactly, TakenAs}
 use Rattle.line.proofs.Shapes.{drawn_some}
-use Rattle.line.proofs.Exactly.{sealed_shaped, reads_back, exact_stays, straight-long, frame_exactly}
+use Rattle.line.proofs.Exactly.{sealed_shaped, reads_back, exact_stays, straight_long, frame_exactly}
 use Rattle.line.proofs.Tails.{frame_lies}
 use Rattle.reader.specs.Walk.{Walked, ends, before, onward, walk_for, walk, drawn_all, AllExact, Covers}
 use Rattle.reader.specs.Theorems.{NoMore, WalkGoesOn, WalkEnds, WalkCovers, WalkKeeps, WalksFrames}
@@ -28,7 +28,7 @@ shorter line r e =
     let h = (frame_exactly line r.shape r.exact).0 e in
     let i = h.1 in
     let some = subst (λ (t : Shape). 4 ≤ length (drawn t)) (sym i.seals) (drawn_some (sealed_shaped i.frame i.whole)) in
-    let long = straight-long line r.shape.kind r.exact h.0 in
+    let long = straight_long line r.shape.kind r.exact h.0 in
     let n = sym (length-append (drawn r.shape) (left line r)) ∙ ap length (frame_lies line r e) in
     omega (arith, n, some)
 

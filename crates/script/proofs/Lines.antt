@@ -62,10 +62,10 @@ module _ (s before : List ℕ) (n : ℕ) (en : n ≡ digits_in s) where
       pub enough : length (take (length s - n) (drop n s)) ≤ 3 * length before
       enough = let h = rw (length-take-le n s fit) at (some_digits (take n s) k e) in rw (rest, length-drop) (omega arith)
 
-      pub all-heard : (count : ℕ) (after : List ℕ) → are_octets (take (length s - n) (drop n s)) ≡ true → count ≡ length (octets_in (take (length s - n) (drop n s)))
+      pub all_heard : (count : ℕ) (after : List ℕ) → are_octets (take (length s - n) (drop n s)) ≡ true → count ≡ length (octets_in (take (length s - n) (drop n s)))
           → after ≡ sets before 0 (octets_in (take (length s - n) (drop n s))) → Parses (packet_of s) before (Packet k count) after
       unfolding packet_of number_part rest_part
-      all-heard count after f m a =
+      all_heard count after f m a =
           let h = rw rest at enough in
           let t = thirds (drop n s) in
           let q = rw zero-add at (sets-eq (octets_in (drop n s)) before 0 (omega arith)) in
@@ -106,9 +106,9 @@ module _ (l before : List ℕ) where
     bad : form_of l ≡ none → Parses (event_of l) before Bad before
     bad p = by none p (out_of_form refl)
 
-    pub is-write : (a v : ℕ) → fits (text "w ## ##") l ≡ true → a ≡ octet_at 2 l → v ≡ octet_at 5 l → Parses (event_of l) before (Write a v) before
+    pub is_write : (a v : ℕ) → fits (text "w ## ##") l ≡ true → a ≡ octet_at 2 l → v ≡ octet_at 5 l → Parses (event_of l) before (Write a v) before
     unfolding form_of
-    is-write a v w ea ev = by (some (write_event a v)) (rw (w, ea, ev) refl) (record { says = refl; leaves = refl })
+    is_write a v w ea ev = by (some (write_event a v)) (rw (w, ea, ev) refl) (record { says = refl; leaves = refl })
 
     module _ (w : fits (text "w ## ##") l ≡ false) where
       pub is_read : (a : ℕ) → fits (text "r ##") l ≡ true → a ≡ octet_at 2 l → Parses (event_of l) before (Read a) before
@@ -116,9 +116,9 @@ module _ (l before : List ℕ) where
       is_read a r ea = by (some (read frame_room a)) (rw (w, r, ea) refl) (record { says = refl; leaves = refl })
 
       module _ (r : fits (text "r ##") l ≡ false) where
-        pub is-reset : fits (text "h") l ≡ true → Parses (event_of l) before HardReset before
+        pub is_reset : fits (text "h") l ≡ true → Parses (event_of l) before HardReset before
         unfolding form_of
-        is-reset z = by (some (hard_reset frame_room)) (rw (w, r, z) refl) (record { says = refl; leaves = refl })
+        is_reset z = by (some (hard_reset frame_room)) (rw (w, r, z) refl) (record { says = refl; leaves = refl })
 
         module _ (z : fits (text "h") l ≡ false) where
           short-line : (m : List ℕ) → length m ≡ 2 → length l < 2 → fits m (take 2 l) ≡ false
@@ -128,20 +128,20 @@ module _ (l before : List ℕ) where
           unfolding form_of
           tiny g = bad (rw (w, r, z, short-line (text "t ") refl g, short-line (text "p ") refl g, short-line (text "v ") refl g) refl)
 
-          pub is-time : (x : Line) → fits (text "t ") (take 2 l) ≡ true → x ≡ line_of (timed (count_of (take (length l - 2) (drop 2 l)))) → Parses (event_of l) before x before
+          pub is_time : (x : Line) → fits (text "t ") (take 2 l) ≡ true → x ≡ line_of (timed (count_of (take (length l - 2) (drop 2 l)))) → Parses (event_of l) before x before
           unfolding form_of
-          is-time x t e = by (timed (count_of (drop 2 l))) (rw (w, r, z, t) refl) (record { says = rw rest at e; leaves = rw (timed_none (count_of (drop 2 l))) refl })
+          is_time x t e = by (timed (count_of (drop 2 l))) (rw (w, r, z, t) refl) (record { says = rw rest at e; leaves = rw (timed_none (count_of (drop 2 l))) refl })
 
           module _ (t : fits (text "t ") (take 2 l) ≡ false) where
-            pub is-packet : (x : Line) (after : List ℕ) → fits (text "p ") (take 2 l) ≡ true → Parses (packet_of (take (length l - 2) (drop 2 l))) before x after → Parses (event_of l) before x after
+            pub is_packet : (x : Line) (after : List ℕ) → fits (text "p ") (take 2 l) ≡ true → Parses (packet_of (take (length l - 2) (drop 2 l))) before x after → Parses (event_of l) before x after
             unfolding form_of
-            is-packet x after p e = by (packet_of (take (length l - 2) (drop 2 l))) (rw (w, r, z, t, p, rest l 2) refl) e
+            is_packet x after p e = by (packet_of (take (length l - 2) (drop 2 l))) (rw (w, r, z, t, p, rest l 2) refl) e
 
             module _ (p : fits (text "p ") (take 2 l) ≡ false) where
-              pub is-sense : (x : Line) → fits (text "v ") (take 2 l) ≡ true → x ≡ line_of (voltages_of (take (length l - 2) (drop 2 l)))
+              pub is_sense : (x : Line) → fits (text "v ") (take 2 l) ≡ true → x ≡ line_of (voltages_of (take (length l - 2) (drop 2 l)))
                   → Parses (event_of l) before x before
               unfolding form_of
-              is-sense x v e =
+              is_sense x v e =
                   by (voltages_of (drop 2 l)) (rw (w, r, z, t, p, v) refl)
                   (record { says = rw rest at e; leaves = rw (voltages_none (drop 2 l)) refl })
 

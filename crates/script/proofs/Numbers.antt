@@ -96,11 +96,11 @@ module _ (l : List ℕ) (v i : ℕ) (st : Reading l v i) where
 -- ---- what an answer tells of the count
 
 module _ (l : List ℕ) (r : Number) (e : counted r ≡ count_of l) where
-  pub is-count : (n : ℕ) → r ≡ Is n → count_of l ≡ some n
-  is-count n g = sym e ∙ ap counted g
+  pub is_count : (n : ℕ) → r ≡ Is n → count_of l ≡ some n
+  is_count n g = sym e ∙ ap counted g
 
-  pub no-count : r ≡ Not → count_of l ≡ none
-  no-count g = sym e ∙ ap counted g
+  pub no_count : r ≡ Not → count_of l ≡ none
+  no_count g = sym e ∙ ap counted g
 
 -- ---- how many digits a line begins with
 

@@ -12,7 +12,7 @@ use Rattle.script.specs.declared.parse.Number.{Number}
 use Rattle.script.specs.declared.parse.Number.TheVariants.{Is, Not}
 use Rattle.script.specs.Text.{digits_in}
 use Rattle.script.specs.Parse.{count_of, number_part, counted, AtMost, ReadsMillivolts, millivolts_of, is_spaced, next_part, sensed, voltages_of}
-use Rattle.script.proofs.Numbers.{is-count, no-count}
+use Rattle.script.proofs.Numbers.{is_count, no_count}
 use Rattle.script.proofs.Lines.{rest}
 
 -- ---- one voltage
@@ -20,25 +20,25 @@ use Rattle.script.proofs.Lines.{rest}
 module _ (l : List ℕ) (r : Number) (e : counted r ≡ count_of l) where
   pub low : (n : ℕ) → r ≡ Is n → n ≤ 65535 → some n ≡ millivolts_of l
   unfolding millivolts_of
-  low n g h = rw (is-count l r e n g, le-leb n 65535 h) refl
+  low n g h = rw (is_count l r e n g, le-leb n 65535 h) refl
 
   pub high : (n : ℕ) → r ≡ Is n → 65535 < n → none ≡ millivolts_of l
   unfolding millivolts_of
-  high n g h = rw (is-count l r e n g, lt-leb n 65535 h) refl
+  high n g h = rw (is_count l r e n g, lt-leb n 65535 h) refl
 
-  pub none-there : r ≡ Not → none ≡ millivolts_of l
+  pub none_there : r ≡ Not → none ≡ millivolts_of l
   unfolding millivolts_of
-  none-there g = rw (no-count l r e g) refl
+  none_there g = rw (no_count l r e g) refl
 
 module _ (l : List ℕ) (r : Number) (e : ReadsMillivolts l r) where
-  pub is-volts : (n : ℕ) → r ≡ Is n → millivolts_of l ≡ some n
-  is-volts n g = sym e.says ∙ ap counted g
+  pub is_volts : (n : ℕ) → r ≡ Is n → millivolts_of l ≡ some n
+  is_volts n g = sym e.says ∙ ap counted g
 
-  pub few-volts : (n : ℕ) → r ≡ Is n → n ≤ 65535
-  few-volts n g = subst (AtMost 65535) g e.few
+  pub few_volts : (n : ℕ) → r ≡ Is n → n ≤ 65535
+  few_volts n g = subst (AtMost 65535) g e.few
 
-  pub no-volts : r ≡ Not → millivolts_of l ≡ none
-  no-volts g = sym e.says ∙ ap counted g
+  pub no_volts : r ≡ Not → millivolts_of l ≡ none
+  no_volts g = sym e.says ∙ ap counted g
 
 -- ---- the three of a line
 

@@ -103,11 +103,11 @@ module _ (b : List ℕ) (at k n : ℕ) where
   stop e = rw (← none_left k n e) (nothing b at)
 
   module _ (z : k ≡ 0 → ⊥) where
-    pub last-digit : {r : ℕ} {a : List ℕ} → n < 10 → Puts b at ((48 + n) ∷ []) r a → Puts b at (decimal_of k n) r a
-    last-digit h p = rw (← one_digit k n z h) p
+    pub last_digit : {r : ℕ} {a : List ℕ} → n < 10 → Puts b at ((48 + n) ∷ []) r a → Puts b at (decimal_of k n) r a
+    last_digit h p = rw (← one_digit k n z h) p
 
-    pub other-digits : {r q : ℕ} {m a : List ℕ} → 10 ≤ n → Puts b at (decimal_of (k - 1) (n / 10)) r m → Puts m r ((48 + n % 10) ∷ []) q a → Puts b at (decimal_of k n) q a
-    other-digits h p q = rw (← more_digits k n z h) (then p q)
+    pub other_digits : {r q : ℕ} {m a : List ℕ} → 10 ≤ n → Puts b at (decimal_of (k - 1) (n / 10)) r m → Puts m r ((48 + n % 10) ∷ []) q a → Puts b at (decimal_of k n) q a
+    other_digits h p q = rw (← more_digits k n z h) (then p q)
 
 -- ---- octets
 

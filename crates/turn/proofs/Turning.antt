@@ -112,11 +112,11 @@ back (some (packet n k m)) roomy before r after p = (
 back (some (sense n x y z)) roomy before r after p = (rw p.says (ap (λ (m : ℕ). some (sense m x y z)) (sym roomy)), rw p.says (omega arith))
 
 module _ (setup : Bool) (l before : List ℕ) (r : Line) (after : List ℕ) (p : Parses (meant_by setup l) before r after) where
-  pub parsed-event : event_for r after ≡ meant_by setup l
-  parsed-event = (back (meant_by setup l) (meant_roomy setup l) before r after p).0
+  pub parsed_event : event_for r after ≡ meant_by setup l
+  parsed_event = (back (meant_by setup l) (meant_roomy setup l) before r after p).0
 
-  pub parsed-heard : heard_of r ≤ length after
-  parsed-heard = (back (meant_by setup l) (meant_roomy setup l) before r after p).1
+  pub parsed_heard : heard_of r ≤ length after
+  parsed_heard = (back (meant_by setup l) (meant_roomy setup l) before r after p).1
 
 pub setup_parses : (l before : List ℕ) (r : Line) → r ≡ line_of (setup_of l) → Parses (setup_of l) before r before
 unfolding setup_of
@@ -136,25 +136,25 @@ module _ (d : Device) (line : Line) (os before : List ℕ) (long : length before
   lent : (f : ℕ → Event) → Serves (f (length before)) d before r after → Serves (f 73) d before r after
   lent f h = subst (λ (n : ℕ). Serves (f n) d before r after) long h
 
-  pub serves-write : (a v : ℕ) → line ≡ Write a v → Serves (write (length before) a v) d before r after → ServesLine (event_for line os) d before r after
-  serves-write a v e h = as_is (Write a v) e (lent (λ n. write n a v) h)
+  pub serves_write : (a v : ℕ) → line ≡ Write a v → Serves (write (length before) a v) d before r after → ServesLine (event_for line os) d before r after
+  serves_write a v e h = as_is (Write a v) e (lent (λ n. write n a v) h)
 
-  pub serves-read : (a : ℕ) → line ≡ Read a → Serves (read (length before) a) d before r after → ServesLine (event_for line os) d before r after
-  serves-read a e h = as_is (Read a) e (lent (λ n. read n a) h)
+  pub serves_read : (a : ℕ) → line ≡ Read a → Serves (read (length before) a) d before r after → ServesLine (event_for line os) d before r after
+  serves_read a e h = as_is (Read a) e (lent (λ n. read n a) h)
 
-  pub serves-pass : (t : ℕ) → line ≡ Time t → Serves (pass (length before) t) d before r after → ServesLine (event_for line os) d before r after
-  serves-pass t e h = as_is (Time t) e (lent (λ n. pass n t) h)
+  pub serves_pass : (t : ℕ) → line ≡ Time t → Serves (pass (length before) t) d before r after → ServesLine (event_for line os) d before r after
+  serves_pass t e h = as_is (Time t) e (lent (λ n. pass n t) h)
 
-  pub serves-reset : line ≡ HardReset → Serves (hard_reset (length before)) d before r after → ServesLine (event_for line os) d before r after
-  serves-reset e h = as_is HardReset e (lent (λ n. hard_reset n) h)
+  pub serves_reset : line ≡ HardReset → Serves (hard_reset (length before)) d before r after → ServesLine (event_for line os) d before r after
+  serves_reset e h = as_is HardReset e (lent (λ n. hard_reset n) h)
 
-  pub serves-packet : (k n : ℕ) → line ≡ Packet k n → Serves (packet (length before) k (take n os)) d before r after
+  pub serves_packet : (k n : ℕ) → line ≡ Packet k n → Serves (packet (length before) k (take n os)) d before r after
       → ServesLine (event_for line os) d before r after
-  serves-packet k n e h = as_is (Packet k n) e (lent (λ x. packet x k (take n os)) h)
+  serves_packet k n e h = as_is (Packet k n) e (lent (λ x. packet x k (take n os)) h)
 
-  pub serves-sense : (x y z : ℕ) → line ≡ Sense x y z → Serves (sense (length before) x y z) d before r after
+  pub serves_sense : (x y z : ℕ) → line ≡ Sense x y z → Serves (sense (length before) x y z) d before r after
       → ServesLine (event_for line os) d before r after
-  serves-sense x y z e h = as_is (Sense x y z) e (lent (λ n. sense n x y z) h)
+  serves_sense x y z e h = as_is (Sense x y z) e (lent (λ n. sense n x y z) h)
 
 pub serves_none : (d : Device) (line : Line) (os before : List ℕ) → line ≡ Bad
     → ServesLine (event_for line os) d before (record { device = d; reply = Done; count = 0 }) before
@@ -187,15 +187,15 @@ module _ (d : Device) (e : Event) (before : List ℕ) (r : Outcome) (after : Lis
   counts long = let m = sent_fits (joined (step (view d) e).frames) before after serves.lent long in let n = serves.count in omega arith
 
 module _ (line : Line) (os : List ℕ) (d : Device) (before : List ℕ) (r : Outcome) (after : List ℕ) where
-  pub steps-ask : Asks d → ServesLine (event_for line os) d before r after → Asks r.device
-  steps-ask asks = go (event_for line os)
+  pub steps_ask : Asks d → ServesLine (event_for line os) d before r after → Asks r.device
+  steps_ask asks = go (event_for line os)
     where
       go : (x : Option Event) → ServesLine x d before r after → Asks r.device
       go none h = rw h.0 asks
       go (some e) h = h.asks
 
-  pub steps-count : length after ≡ length before → ServesLine (event_for line os) d before r after → r.count ≤ length after
-  steps-count long = go (event_for line os)
+  pub steps_count : length after ≡ length before → ServesLine (event_for line os) d before r after → r.count ≤ length after
+  steps_count long = go (event_for line os)
     where
       go : (x : Option Event) → ServesLine x d before r after → r.count ≤ length after
       go none h = rw h.0 (omega arith)
@@ -231,39 +231,39 @@ reason_few s (some (sense r x y z)) n = omega arith
 -- ---- what is told of it
 
 module _ (s : State) (line : Line) (os : List ℕ) (number : ℕ) where
-  pub tells-nothing : (f : Line) {b : Bool} {out : List ℕ} {at : ℕ} → line ≡ f → reason_text_of s (event_for f os) number ≡ []
+  pub tells_nothing : (f : Line) {b : Bool} {out : List ℕ} {at : ℕ} → line ≡ f → reason_text_of s (event_for f os) number ≡ []
       → Prints b out at (reason_text_of s (event_for line os) number) at out
-  tells-nothing f {b} {out} {at} e q = rw (e, q) (go b)
+  tells_nothing f {b} {out} {at} e q = rw (e, q) (go b)
     where
       go : (x : Bool) → Prints x out at [] at out
       go true = record { puts = nothing out at }
       go false = record { puts = nothing out at }
 
-  pub tells-why : (k n : ℕ) (w : Why) {b : Bool} {out out' : List ℕ} {at r : ℕ} → line ≡ Packet k n → reason_of w ≡ why s k (take n os)
+  pub tells_why : (k n : ℕ) (w : Why) {b : Bool} {out out' : List ℕ} {at r : ℕ} → line ≡ Packet k n → reason_of w ≡ why s k (take n os)
       → Prints b out at (why_text number (reason_of w)) r out' → Prints b out at (reason_text_of s (event_for line os) number) r out'
   unfolding reason_text_of
-  tells-why k n w e q p = rw (e, ← q) p
+  tells_why k n w e q p = rw (e, ← q) p
 
 -- where one is told, the other says nothing
 module _ (s : State) (e : Option Event) (number : ℕ) (out : List ℕ) (at : ℕ) where
-  pub tells-reason : (t : Tells) {r : ℕ} {out' : List ℕ} → t ≡ Reasons
+  pub tells_reason : (t : Tells) {r : ℕ} {out' : List ℕ} → t ≡ Reasons
       → Prints (has_room bench_line_room out at) out at (reason_text_of s e number) r out' → TellsReason t s e number out at r out'
   unfolding TellsReason
-  tells-reason t h p = rw h p
+  tells_reason t h p = rw h p
 
-  pub tells-later : (t : Tells) → t ≡ Outcomes → TellsReason t s e number out at at out
+  pub tells_later : (t : Tells) → t ≡ Outcomes → TellsReason t s e number out at at out
   unfolding TellsReason
-  tells-later t h = rw h (refl, refl)
+  tells_later t h = rw h (refl, refl)
 
 module _ (reply : Reply) (high : Bool) (symbols out : List ℕ) (at : ℕ) where
-  pub tells-outcome : (t : Tells) {r : ℕ} {out' : List ℕ} → t ≡ Outcomes
+  pub tells_outcome : (t : Tells) {r : ℕ} {out' : List ℕ} → t ≡ Outcomes
       → PrintsOutcome reply high symbols out at r out' → TellsOutcome t reply high symbols out at r out'
   unfolding TellsOutcome
-  tells-outcome t h p = rw h p
+  tells_outcome t h p = rw h p
 
-  pub told-before : (t : Tells) → t ≡ Reasons → TellsOutcome t reply high symbols out at at out
+  pub told_before : (t : Tells) → t ≡ Reasons → TellsOutcome t reply high symbols out at at out
   unfolding TellsOutcome
-  told-before t h = rw h (refl, refl)
+  told_before t h = rw h (refl, refl)
 
 -- ---- a parsed line whole
 
@@ -271,10 +271,10 @@ module _ (t : Tells) (d : Device) (line : Line) (number : ℕ) (os symbols out :
   behind : at + bench_line_room ≤ length out
   behind = leb-true (at + bench_line_room) (length out) roomy
 
-  pub acts-bad : Asks d → is_bad line ≡ true → PrintsBad number out at end out'
+  pub acts_bad : Asks d → is_bad line ≡ true → PrintsBad number out at end out'
       → Acts t d (event_for line os) number symbols out at (record { device = d; ends = true; at = end }) symbols out'
   unfolding text_of left_by sent_by joined
-  acts-bad asks bad p = go (event_for line os) (missing_is line os ∙ bad)
+  acts_bad asks bad p = go (event_for line os) (missing_is line os ∙ bad)
     where
       printed : Puts out at (bad_line_text number) end out'
       printed = is_printed roomy p
@@ -333,12 +333,12 @@ module _ (t : Tells) (d : Device) (line : Line) (number : ℕ) (os symbols out :
     told_of Outcomes e told between h p q = outcome-told e h (rw (p.0, p.1) at q)
     told_of Reasons e told between h p q = reason-told e (rw (q.0, q.1) p)
 
-    pub acts-done : (told : ℕ) (between : List ℕ) → is_bad line ≡ false → ServesLine (event_for line os) d symbols o symbols'
+    pub acts_done : (told : ℕ) (between : List ℕ) → is_bad line ≡ false → ServesLine (event_for line os) d symbols o symbols'
         → TellsReason t (view d) (event_for line os) number out at told between
         → TellsOutcome t (replied o.reply) high (take o.count symbols') between told end out'
         → Acts t d (event_for line os) number symbols out at (record { device = o.device; ends = false; at = end }) symbols' out'
     unfolding left_by sent_by
-    acts-done told between good steps p q = go (event_for line os) (missing_is line os ∙ good) steps p
+    acts_done told between good steps p q = go (event_for line os) (missing_is line os ∙ good) steps p
       where
         go : (x : Option Event) → missing x ≡ false → ServesLine x d symbols o symbols' → TellsReason t (view d) x number out at told between
             → Acts t d x number symbols out at (record { device = o.device; ends = false; at = end }) symbols' out'
@@ -360,7 +360,7 @@ pub takes_line : {b : Bool} (t : Tells) (d : Device) (setup : Bool) (l : List �
     → TakesLine b t d (meant_by setup l) number before at r after
 unfolding TakesLine
 takes_line t d setup l number before at meant r after roomy p x =
-    let is = parsed-event setup l before.octets meant after.octets p in
+    let is = parsed_event setup l before.octets meant after.octets p in
     let acts = subst (λ (e : Option Event). Acts t d e number before.symbols before.out at r after.symbols after.out) is x in
     rw roomy (record { acts = acts; octets = p.leaves })
 
@@ -371,12 +371,12 @@ bad_within out at n r out' h p =
     ends_inside (has_room bench_line_room out at) h (λ e. omega (arith, leb-true (at + bench_line_room) (length out) e, bad_few n)) p
 
 module _ (t : Tells) (d : Device) (e : Option Event) (number : ℕ) (before : Lent) (at : ℕ) (r : Turned) (after : Lent) where
-  pub turn-asks : (b : Bool) → Asks d → TakesLine b t d e number before at r after → Asks r.device
+  pub turn_asks : (b : Bool) → Asks d → TakesLine b t d e number before at r after → Asks r.device
   unfolding TakesLine
-  turn-asks true asks h = h.acts.asks
-  turn-asks false asks h = rw h.0 asks
+  turn_asks true asks h = h.acts.asks
+  turn_asks false asks h = rw h.0 asks
 
-  pub turn-within : (b : Bool) → at ≤ length before.out → TakesLine b t d e number before at r after → r.at ≤ length before.out
+  pub turn_within : (b : Bool) → at ≤ length before.out → TakesLine b t d e number before at r after → r.at ≤ length before.out
   unfolding TakesLine
-  turn-within true h x = x.acts.fits
-  turn-within false h x = rw x.0 h
+  turn_within true h x = x.acts.fits
+  turn_within false h x = rw x.0 h

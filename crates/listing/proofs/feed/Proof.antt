@@ -1,7 +1,7 @@
 -- The step is that to the form behind the character, exactly where the listing may print.
 use mathlib.Core.Path.{sym, ◌∙◌}
 use borrow.Author.Rules.{rules}
-use Rattle.listing.proofs.Goings.{may-bounds, may-room, takes_it, takes_none}
+use Rattle.listing.proofs.Goings.{may_bounds, may_room, takes_it, takes_none}
 use Rattle.listing.proofs.feed.Statement.{statement}
 use Rattle.listing.proofs.feed.Tie as tie
 
@@ -16,7 +16,7 @@ go-requires c κs =
     let test = c.before.before.before in
     let a = test.before.before.before.args in
     let may = sym test.before.may-print.ensures ∙ test.if1.true in
-    (may-bounds a.listing a.out.now a.at may, search rules, may-room a.listing a.out.now a.at may)
+    (may_bounds a.listing a.out.now a.at may, search rules, may_room a.listing a.out.now a.at may)
 
 same_length : tie.Need-same-length
 same_length c = search rules

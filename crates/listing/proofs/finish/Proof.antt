@@ -2,7 +2,7 @@
 use mathlib.Core.Path.{sym, ◌∙◌}
 use borrow.Author.Rules.{rules}
 use Rattle.text.proofs.Texts.{printed, not_printed}
-use Rattle.listing.proofs.Goings.{room, may-bounds, may-room}
+use Rattle.listing.proofs.Goings.{room, may_bounds, may_room}
 use Rattle.listing.proofs.finish.Statement.{statement}
 use Rattle.listing.proofs.finish.Tie as tie
 
@@ -14,7 +14,7 @@ put-end-requires c κs =
     let test = c.before in
     let a = test.before.before.before.args in
     let may = sym test.before.may-print.ensures ∙ test.if1.true in
-    ((may-bounds a.listing a.out.now a.at may).fits, room a.out.now a.at (may-room a.listing a.out.now a.at may))
+    ((may_bounds a.listing a.out.now a.at may).fits, room a.out.now a.at (may_room a.listing a.out.now a.at may))
 
 same_length : tie.Need-same-length
 same_length c = search rules

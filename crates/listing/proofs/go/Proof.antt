@@ -1,6 +1,6 @@
 -- A symbol, a broken form, or any other that leaves the symbols as they are.
 use borrow.Author.Rules.{rules}
-use Rattle.listing.proofs.Goings.{goes-broken, goes_on, goes_to, gives}
+use Rattle.listing.proofs.Goings.{goes_broken, goes_on, goes_to, gives}
 use Rattle.listing.proofs.go.Statement.{statement}
 use Rattle.listing.proofs.go.Tie as tie
 
@@ -45,7 +45,7 @@ returns-2 c =
     let told = put.before.before in
     let begun = told.before.before.before.before in
     goes_to told.enum_told.given.1
-    (gives c.stop.ensures (goes-broken begun.args.listing _ _ _ begun.requires.0 begun.requires.1 begun.requires.2 _ _ put.put-bad.ensures))
+    (gives c.stop.ensures (goes_broken begun.args.listing _ _ _ begun.requires.0 begun.requires.1 begun.requires.2 _ _ put.put-bad.ensures))
 
 returns-3 : tie.Need-returns-3
 returns-3 c =

@@ -6,7 +6,7 @@ use borrow.Author.Rules.{rules}
 use lib.ListN.{set, length-set}
 use lib.Seq.{length-take-le}
 use Rattle.listing.proofs.Goings.{room}
-use Rattle.listing.proofs.Symbols.{frame-fits, frame-few, answers-frame, answers-short, none-fits, answers-none, wrong-fits, answers-wrong, never-small}
+use Rattle.listing.proofs.Symbols.{frame_fits, frame_few, answers_frame, answers_short, none_fits, answers_none, wrong_fits, answers_wrong, never_small}
 use Rattle.listing.proofs.symbol.Statement.{statement}
 use Rattle.listing.proofs.symbol.Tie as tie
 
@@ -48,7 +48,7 @@ array-share-prefix-octets c =
     let read = told.before.before.before in
     let called = read.before.before in
     let begun = called.before.before.before in
-    frame-fits begun.args.listing begun.args.window.now begun.args.out.now begun.args.at begun.requires.0 begun.requires.1 begun.requires.2 begun.args.v _ _ _ refl read.read-frame.auto.1.1.0 read.read-frame.ensures _ _ _ _ told.kind.given.1
+    frame_fits begun.args.listing begun.args.window.now begun.args.out.now begun.args.at begun.requires.0 begun.requires.1 begun.requires.2 begun.args.v _ _ _ refl read.read-frame.auto.1.1.0 read.read-frame.ensures _ _ _ _ told.kind.given.1
 
 slice-aggregate-put-frame : tie.Need-slice-aggregate-put-frame
 slice-aggregate-put-frame c =
@@ -56,7 +56,7 @@ slice-aggregate-put-frame c =
     let read = told.before.before.before in
     let called = read.before.before in
     let begun = called.before.before.before in
-    sym (length-take-le _ _ (frame-fits begun.args.listing begun.args.window.now begun.args.out.now begun.args.at begun.requires.0 begun.requires.1 begun.requires.2 begun.args.v _ _ _ refl read.read-frame.auto.1.1.0 read.read-frame.ensures _ _ _ _ told.kind.given.1))
+    sym (length-take-le _ _ (frame_fits begun.args.listing begun.args.window.now begun.args.out.now begun.args.at begun.requires.0 begun.requires.1 begun.requires.2 begun.args.v _ _ _ refl read.read-frame.auto.1.1.0 read.read-frame.ensures _ _ _ _ told.kind.given.1))
 
 put-frame-requires : tie.Need-put-frame-requires
 put-frame-requires c κs =
@@ -64,7 +64,7 @@ put-frame-requires c κs =
     let read = told.before.before.before in
     let called = read.before.before in
     let begun = called.before.before.before in
-    (frame-few begun.args.listing begun.args.window.now begun.args.out.now begun.args.at begun.requires.0 begun.requires.1 begun.requires.2 begun.args.v _ _ _ refl read.read-frame.auto.1.1.0 read.read-frame.ensures _ _ _ _ told.kind.given.1, room begun.args.out.now begun.args.at begun.requires.2)
+    (frame_few begun.args.listing begun.args.window.now begun.args.out.now begun.args.at begun.requires.0 begun.requires.1 begun.requires.2 begun.args.v _ _ _ refl read.read-frame.auto.1.1.0 read.read-frame.ensures _ _ _ _ told.kind.given.1, room begun.args.out.now begun.args.at begun.requires.2)
 
 enum_told : tie.Need-enum-told
 enum_told c = search rules
@@ -81,7 +81,7 @@ add-put-no c =
     let read = told.before.before.before in
     let called = read.before.before in
     let begun = called.before.before.before in
-    omega (arith, none-fits begun.args.listing begun.args.window.now begun.args.out.now begun.args.at begun.requires.0 begun.requires.1 begun.requires.2 begun.args.v _ _ _ refl read.read-frame.auto.1.1.0 read.read-frame.ensures _ told.p.given.1)
+    omega (arith, none_fits begun.args.listing begun.args.window.now begun.args.out.now begun.args.at begun.requires.0 begun.requires.1 begun.requires.2 begun.args.v _ _ _ refl read.read-frame.auto.1.1.0 read.read-frame.ensures _ told.p.given.1)
 
 put-no-requires : tie.Need-put-no-requires
 put-no-requires c κs = search rules
@@ -98,7 +98,7 @@ add-put-no-2 c =
     let read = told.before.before.before in
     let called = read.before.before in
     let begun = called.before.before.before in
-    omega (arith, wrong-fits begun.args.listing begun.args.window.now begun.args.out.now begun.args.at begun.requires.0 begun.requires.1 begun.requires.2 begun.args.v _ _ _ refl read.read-frame.auto.1.1.0 read.read-frame.ensures _ told.p2.given.1)
+    omega (arith, wrong_fits begun.args.listing begun.args.window.now begun.args.out.now begun.args.at begun.requires.0 begun.requires.1 begun.requires.2 begun.args.v _ _ _ refl read.read-frame.auto.1.1.0 read.read-frame.ensures _ told.p2.given.1)
 
 put-no-requires-2 : tie.Need-put-no-requires-2
 put-no-requires-2 c κs = search rules
@@ -125,7 +125,7 @@ returns c =
     let read = told.before.before.before in
     let called = read.before.before in
     let begun = called.before.before.before in
-    answers-frame begun.args.listing begun.args.window.now begun.args.out.now begun.args.at begun.requires.0 begun.requires.1 begun.requires.2 begun.args.v _ _ _ refl read.read-frame.auto.1.1.0 read.read-frame.ensures _ _ _ _ _ _ told.kind.given.1 c.before.before.put-frame.ensures
+    answers_frame begun.args.listing begun.args.window.now begun.args.out.now begun.args.at begun.requires.0 begun.requires.1 begun.requires.2 begun.args.v _ _ _ refl read.read-frame.auto.1.1.0 read.read-frame.ensures _ _ _ _ _ _ told.kind.given.1 c.before.before.put-frame.ensures
 
 same-length-3 : tie.Need-same-length-3
 same-length-3 c = search rules
@@ -136,7 +136,7 @@ returns-2 c =
     let read = told.before.before.before in
     let called = read.before.before in
     let begun = called.before.before.before in
-    answers-short begun.args.listing begun.args.window.now begun.args.out.now begun.args.at begun.requires.0 begun.requires.1 begun.requires.2 begun.args.v _ _ _ refl read.read-frame.auto.1.1.0 read.read-frame.ensures _ told.enum_told.given.1
+    answers_short begun.args.listing begun.args.window.now begun.args.out.now begun.args.at begun.requires.0 begun.requires.1 begun.requires.2 begun.args.v _ _ _ refl read.read-frame.auto.1.1.0 read.read-frame.ensures _ told.enum_told.given.1
 
 same-length-4 : tie.Need-same-length-4
 same-length-4 c = search rules
@@ -151,7 +151,7 @@ returns-3 c =
     let read = told.before.before.before in
     let called = read.before.before in
     let begun = called.before.before.before in
-    answers-none begun.args.listing begun.args.window.now begun.args.out.now begun.args.at begun.requires.0 begun.requires.1 begun.requires.2 begun.args.v _ _ _ refl read.read-frame.auto.1.1.0 read.read-frame.ensures _ _ _ _ told.p.given.1 put.put-no.ensures c.stop.ensures
+    answers_none begun.args.listing begun.args.window.now begun.args.out.now begun.args.at begun.requires.0 begun.requires.1 begun.requires.2 begun.args.v _ _ _ refl read.read-frame.auto.1.1.0 read.read-frame.ensures _ _ _ _ told.p.given.1 put.put-no.ensures c.stop.ensures
 
 same-length-6 : tie.Need-same-length-6
 same-length-6 c = search rules
@@ -166,7 +166,7 @@ returns-4 c =
     let read = told.before.before.before in
     let called = read.before.before in
     let begun = called.before.before.before in
-    answers-wrong begun.args.listing begun.args.window.now begun.args.out.now begun.args.at begun.requires.0 begun.requires.1 begun.requires.2 begun.args.v _ _ _ refl read.read-frame.auto.1.1.0 read.read-frame.ensures _ _ _ _ told.p2.given.1 put.put-no2.ensures c.stop2.ensures
+    answers_wrong begun.args.listing begun.args.window.now begun.args.out.now begun.args.at begun.requires.0 begun.requires.1 begun.requires.2 begun.args.v _ _ _ refl read.read-frame.auto.1.1.0 read.read-frame.ensures _ _ _ _ told.p2.given.1 put.put-no2.ensures c.stop2.ensures
 
 same-length-8 : tie.Need-same-length-8
 same-length-8 c = search rules
@@ -177,7 +177,7 @@ returns-5 c =
     let read = told.before.before.before in
     let called = read.before.before in
     let begun = called.before.before.before in
-    absurd (never-small begun.args.listing begun.args.window.now begun.args.out.now begun.args.at begun.requires.0 begun.requires.1 begun.requires.2 begun.args.v _ _ _ refl read.read-frame.auto.1.1.0 read.read-frame.ensures told.enum-told2.given.1)
+    absurd (never_small begun.args.listing begun.args.window.now begun.args.out.now begun.args.at begun.requires.0 begun.requires.1 begun.requires.2 begun.args.v _ _ _ refl read.read-frame.auto.1.1.0 read.read-frame.ensures told.enum-told2.given.1)
 
 pub symbol_spec : {M : Type 1} → statement M
 symbol_spec =

@@ -148,14 +148,14 @@ module _ {M : Type 1} {𝓤 : Ura M} (𝓛 : Logic 𝓤) (at_mem : Memory → SP
   abbrev made : Answer → Reader → Moved
   made r h = record { answer = r; at = h.at }
 
-  abbrev mach-m : Answer → Reader → Val
-  mach-m r h = LL.val G.the_type G'.the_laws (made r h)
+  abbrev mach_m : Answer → Reader → Val
+  mach_m r h = LL.val G.the_type G'.the_laws (made r h)
 
   -- the answer's machine value, and that the one returned is it
-  abbrev mach-a : Answer → Val
-  mach-a r = (G'.the_laws).0.val ((S.the_field).into r)
+  abbrev mach_a : Answer → Val
+  mach_a r = (G'.the_laws).0.val ((S.the_field).into r)
 
-  told : (r : Answer) (u : Val) → Is S.the_row r (u ∷ []) → u ∷ [] ≡ mach-a r ∷ []
+  told : (r : Answer) (u : Val) → Is S.the_row r (u ∷ []) → u ∷ [] ≡ mach_a r ∷ []
   told r u is = (G'.the_laws).0.tells ((S.the_field).into r) (u ∷ []) is
 
   abbrev Found : Answer → Reader → List ℕ → Type 0
@@ -174,26 +174,26 @@ module _ {M : Type 1} {𝓤 : Ura M} (𝓛 : Logic 𝓤) (at_mem : Memory → SP
   abbrev κs₃ : ℕ → Lfts 3
   κs₃ ν = (ν ∷ κ, (κ, (κ', tt)))
 
-  abbrev Given-on : Type 0
-  Given-on = Bor Reader × (Bor (List ℕ) × Unit {0})
+  abbrev GivenOn : Type 0
+  GivenOn = Bor Reader × (Bor (List ℕ) × Unit {0})
 
-  abbrev given-on : ℕ → GName → Given-on
-  given-on l δ = (record { ref_ptr = (l, 0); ghost_name = δ; now = d }, (x, tt))
+  abbrev given_on : ℕ → GName → GivenOn
+  given_on l δ = (record { ref_ptr = (l, 0); ghost_name = δ; now = d }, (x, tt))
 
   abbrev passed : (ν l : ℕ) → Vals next.signature (κs₃ ν)
   passed ν l = (vptr l 0 ∷ [], (s ∷ [], tt))
 
   abbrev to : ℕ → ℕ → GName → (Next 𝓛 at_mem run).Ghost
-  to ν l δ = ((κs₃ ν, (ql, (qr, (q', tt))), (meet_⊑_right (ν ∷ []) κ, tt), given-on l δ, passed ν l), tt)
+  to ν l δ = ((κs₃ ν, (ql, (qr, (q', tt))), (meet_⊑_right (ν ∷ []) κ, tt), given_on l δ, passed ν l), tt)
 
-  asked : (ν l : ℕ) (δ : GName) → ent 𝓤 (on_entry 𝓛 next.signature (κs₃ ν) (ql, (qr, (q', tt))) (given-on l δ) (passed ν l)) ((Next 𝓛 at_mem run).pre (to ν l δ))
-  asked ν l δ = qed 𝓛 ((‵ (flft (ν ∷ κ) ql) ⊛ ‵ (flft κ qr) ⊛ ‵ (flft κ' q') ⊛ ‵ ftrue) ∷ ‵ (owns (MutRef (named 0) (ν ∷ κ) (B κ) ∷ MutSlice (named 2) κ' u8 ∷ []) (given-on l δ) (passed ν l)) ∷ []) ∵ join ! $ frame ! $ done !
+  asked : (ν l : ℕ) (δ : GName) → ent 𝓤 (on_entry 𝓛 next.signature (κs₃ ν) (ql, (qr, (q', tt))) (given_on l δ) (passed ν l)) ((Next 𝓛 at_mem run).pre (to ν l δ))
+  asked ν l δ = qed 𝓛 ((‵ (flft (ν ∷ κ) ql) ⊛ ‵ (flft κ qr) ⊛ ‵ (flft κ' q') ⊛ ‵ ftrue) ∷ ‵ (owns (MutRef (named 0) (ν ∷ κ) (B κ) ∷ MutSlice (named 2) κ' u8 ∷ []) (given_on l δ) (passed ν l)) ∷ []) ∵ join ! $ frame ! $ done !
 
-  exits : (r : Answer) (u : Val) (h : Reader) (zs : List ℕ) → Found r h zs → length zs ≡ length ys → Is K.the_row h.at (K'.lowered h.at ∷ []) → u ∷ [] ≡ mach-a r ∷ []
-      → ent 𝓤 (⋆ 𝓛 (‵ (flft κ ql) ∷ (‵ (flft κ qr) ⊛ ‵ (flft κ' q') ⊛ ‵ ftrue) ∷ ‵ ((S.the_row).own_val r (u ∷ [])) ∷ ‵ (finally u8 γ zs) ∷ ‵ Own ∷ [])) (Post (mach-m r h))
+  exits : (r : Answer) (u : Val) (h : Reader) (zs : List ℕ) → Found r h zs → length zs ≡ length ys → Is K.the_row h.at (K'.lowered h.at ∷ []) → u ∷ [] ≡ mach_a r ∷ []
+      → ent 𝓤 (⋆ 𝓛 (‵ (flft κ ql) ∷ (‵ (flft κ qr) ⊛ ‵ (flft κ' q') ⊛ ‵ ftrue) ∷ ‵ ((S.the_row).own_val r (u ∷ [])) ∷ ‵ (finally u8 γ zs) ∷ ‵ Own ∷ [])) (Post (mach_m r h))
   exits r u h zs e l fits tells =
       qed 𝓛 (‵ (flft κ ql) ∷ (‵ (flft κ qr) ⊛ ‵ (flft κ' q') ⊛ ‵ ftrue) ∷ ‵ ((S.the_row).own_val r (u ∷ [])) ∷ ‵ (finally u8 γ zs) ∷ ‵ Own ∷ []) ∵
-      suffices ! _ (ends_at 𝓛 next-from.ended stayed (next-from.clauses 𝓛 at_mem run) ((κs, (q, (q', tt)), tt, a, vals), tt) (mach-m r h) (made r h) (tt, (tt, (zs, tt))) (tt, (tt, (l, tt)))) $ says ! e.steps $
+      suffices ! _ (ends_at 𝓛 next-from.ended stayed (next-from.clauses 𝓛 at_mem run) ((κs, (q, (q', tt)), tt, a, vals), tt) (mach_m r h) (made r h) (tt, (tt, (zs, tt))) (tt, (tt, (l, tt)))) $ says ! e.steps $
       move ! (1 ∷ []) $ split ! $ move ! (2 ∷ 0 ∷ []) $ use2 𝓛 (‵ (flft κ q)) (𝓛.lfts.lft_join κ q) $ join ! $ frame ! $
       -- [the answer; the last list; what the slice owns]
       nothing ! $ move ! (2 ∷ 0 ∷ []) $ fjoin ! $ owned ! K.the_row (Is K.the_row) (LL.makes K.the_type K'.the_plain 𝓛) n _ ok $ fjoin ! $ move ! (2 ∷ 0 ∷ []) $ fjoin ! $ frame ! $
@@ -226,9 +226,9 @@ module _ {M : Type 1} {𝓤 : Ura M} (𝓛 : Logic 𝓤) (at_mem : Memory → SP
         move ! (4 ∷ 5 ∷ []) $ join ! $ move ! (3 ∷ 0 ∷ []) $ join ! $ move ! (1 ∷ 4 ∷ []) $ fjoin ! $ move ! (1 ∷ 0 ∷ []) $ use2 𝓛 (raw ((Next 𝓛 at_mem run).pre (to ν l₄ δ))) (asked ν l₄ δ) $
         -- [what the callee asks; the lender's part; the way back; what the slice owns; _9; …; _8; …; _7; …; _6; …; _5; …; …; _3; …]
         calls_at ! fm (Next 𝓛 at_mem run) known (to ν l₄ δ) (and_then ! (load ! (from ! (stop !)) (look ! 10 refl)) (and_then ! (load ! (from ! (stop !)) (look ! 6 refl)) (no_more !))) (λ u.
-        use1 𝓛 (later (some (λ (r : Answer). ((‵ (flft (ν ∷ κ) ql) ⊛ ‵ (flft κ qr) ⊛ ‵ (flft κ' q') ⊛ ‵ ftrue) ⊛ ‵ ((S.the_row).own_val r (u ∷ []))) ⊛ raw (ensured 𝓛 next.ended (next.clauses 𝓛 at_mem run) (κs₃ ν) (given-on l₄ δ) tt r)))) (id⊢ 𝓤 _) $ await ! tt $ pick ! (λ r.
+        use1 𝓛 (later (some (λ (r : Answer). ((‵ (flft (ν ∷ κ) ql) ⊛ ‵ (flft κ qr) ⊛ ‵ (flft κ' q') ⊛ ‵ ftrue) ⊛ ‵ ((S.the_row).own_val r (u ∷ []))) ⊛ raw (ensured 𝓛 next.ended (next.clauses 𝓛 at_mem run) (κs₃ ν) (given_on l₄ δ) tt r)))) (id⊢ 𝓤 _) $ await ! tt $ pick ! (λ r.
         -- what `next` ensures, at some last reader and list
-        split ! $ move ! (1 ∷ []) $ use1 𝓛 (some (λ (zs : Reader × (List ℕ × Unit {0})). ‵ (lasts next.ended (κs₃ ν) (given-on l₄ δ) zs) ⊛ raw (fact 𝓤 (Found r zs.0 zs.1.0)))) (id⊢ 𝓤 _) $ pick ! (λ zs.
+        split ! $ move ! (1 ∷ []) $ use1 𝓛 (some (λ (zs : Reader × (List ℕ × Unit {0})). ‵ (lasts next.ended (κs₃ ν) (given_on l₄ δ) zs) ⊛ raw (fact 𝓤 (Found r zs.0 zs.1.0)))) (id⊢ 𝓤 _) $ pick ! (λ zs.
         split ! $ move ! (1 ∷ []) $ heard ! (Found r zs.0 zs.1.0) (λ e.
         fsplit ! $ move ! (1 ∷ []) $ fsplit ! $ move ! (1 ∷ []) $ drop ! $ fsplit ! $ move ! (1 ∷ []) $ feq_l ! (λ l.
         -- [the last list; the last reader; the tokens and the result; the lender's part; the way back; what the slice owns; _9; …]

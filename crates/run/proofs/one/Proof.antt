@@ -1,7 +1,7 @@
 -- The device can be asked again, and what was printed lies in the buffer.
 use native.Mathlib.Omega.{arith}
 use Rattle.stream.proofs.Staying.{room_ready, stepped_ready}
-use Rattle.turn.proofs.Turning.{turn-asks, turn-within}
+use Rattle.turn.proofs.Turning.{turn_asks, turn_within}
 use borrow.Author.Rules.{rules}
 use Rattle.run.proofs.one.Statement.{statement}
 use Rattle.run.proofs.one.Tie as tie
@@ -53,8 +53,8 @@ returns c =
     let asked = line.before.before.before in
     let begun = asked.before.before.before in
     let ready = room_ready line.next-line.result.stream roomed.room.result 227 begun.args.out.now line.next-line.ensures.0 roomed.room.ensures in
-    let fits = turn-within _ _ _ _ _ _ _ _ _ (omega (arith, begun.requires.3, ready.output)) took.turn.ensures in (
-      turn-asks _ _ _ _ _ _ _ _ _ begun.requires.0 took.turn.ensures,
+    let fits = turn_within _ _ _ _ _ _ _ _ _ (omega (arith, begun.requires.3, ready.output)) took.turn.ensures in (
+      turn_asks _ _ _ _ _ _ _ _ _ begun.requires.0 took.turn.ensures,
       stepped_ready _ _ _ _ _ ready.input (omega (arith, fits, held.kept.ensures, begun.requires.3)) c.stepped.ensures,
     )
 

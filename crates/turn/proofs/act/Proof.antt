@@ -2,7 +2,7 @@
 use borrow.Author.Rules.{rules}
 use mathlib.Core.Path.{sym, ◌∙◌}
 use lib.Seq.{length-take-le}
-use Rattle.turn.proofs.Turning.{steps-ask, steps-count, acts-bad, acts-done}
+use Rattle.turn.proofs.Turning.{steps_ask, steps_count, acts_bad, acts_done}
 use Rattle.turn.proofs.act.Statement.{statement}
 use Rattle.turn.proofs.act.Tie as tie
 
@@ -22,7 +22,7 @@ returns c =
     let asked = test.before in
     let begun = asked.before.before.before.before in
     let a = begun.args in
-    acts-bad a.tells a.device a.line _ a.octets.now a.symbols.now a.out.now _ begun.requires.3 _ _ begun.requires.0 (sym asked.is-bad.ensures ∙ test.if1.true) printed.print-bad.ensures
+    acts_bad a.tells a.device a.line _ a.octets.now a.symbols.now a.out.now _ begun.requires.3 _ _ begun.requires.0 (sym asked.is-bad.ensures ∙ test.if1.true) printed.print-bad.ensures
 
 tell-reason-requires : tie.Need-tell-reason-requires
 tell-reason-requires c κs = search rules
@@ -37,7 +37,7 @@ int-n-requires c κs =
     let test = said.before.before in
     let begun = test.before.before.before.before.before in
     let a = begun.args in
-    steps-ask a.line a.octets.now a.device a.symbols.now served.serve.result served.serve.new.1.1.1.0 begun.requires.0 served.serve.ensures
+    steps_ask a.line a.octets.now a.device a.symbols.now served.serve.result served.serve.new.1.1.1.0 begun.requires.0 served.serve.ensures
 
 slice-reshare-prefix-tell-outcome : tie.Need-slice-reshare-prefix-tell-outcome
 slice-reshare-prefix-tell-outcome c =
@@ -46,7 +46,7 @@ slice-reshare-prefix-tell-outcome c =
     let test = said.before.before in
     let begun = test.before.before.before.before.before in
     let a = begun.args in
-    steps-count a.line a.octets.now a.device a.symbols.now served.serve.result served.serve.new.1.1.1.0 served.serve.auto.1.1.1.0 served.serve.ensures
+    steps_count a.line a.octets.now a.device a.symbols.now served.serve.result served.serve.new.1.1.1.0 served.serve.auto.1.1.1.0 served.serve.ensures
 
 slice-aggregate-tell-outcome : tie.Need-slice-aggregate-tell-outcome
 slice-aggregate-tell-outcome c =
@@ -56,7 +56,7 @@ slice-aggregate-tell-outcome c =
     let test = said.before.before in
     let begun = test.before.before.before.before.before in
     let a = begun.args in
-    sym (length-take-le served.serve.result.count _ (steps-count a.line a.octets.now a.device a.symbols.now served.serve.result served.serve.new.1.1.1.0 served.serve.auto.1.1.1.0 served.serve.ensures))
+    sym (length-take-le served.serve.result.count _ (steps_count a.line a.octets.now a.device a.symbols.now served.serve.result served.serve.new.1.1.1.0 served.serve.auto.1.1.1.0 served.serve.ensures))
 
 tell-outcome-requires : tie.Need-tell-outcome-requires
 tell-outcome-requires c κs = search rules
@@ -77,7 +77,7 @@ returns-2 c =
     let asked = test.before in
     let begun = asked.before.before.before.before in
     let a = begun.args in
-    acts-done a.tells a.device a.line _ a.octets.now a.symbols.now a.out.now _ begun.requires.3 _ _
+    acts_done a.tells a.device a.line _ a.octets.now a.symbols.now a.out.now _ begun.requires.3 _ _
     served.serve.new.1.1.1.0 served.serve.result begun.requires.2 (served.serve.auto.1.1.1.0 ∙ begun.requires.2) _
     level.int-n.ensures _ _ (sym asked.is-bad.ensures ∙ test.if1.false) served.serve.ensures said.tell-reason.ensures printed.tell-outcome.ensures
 

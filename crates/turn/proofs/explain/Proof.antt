@@ -3,7 +3,7 @@ use borrow.Author.Rules.{rules}
 use mathlib.Core.Path.{refl, sym}
 use lib.Seq.{length-take-le}
 use Rattle.turn.specs.Turn.{reason_text_of}
-use Rattle.turn.proofs.Turning.{heard_within, tells-nothing, tells-why}
+use Rattle.turn.proofs.Turning.{heard_within, tells_nothing, tells_why}
 use Rattle.turn.proofs.explain.Statement.{statement}
 use Rattle.turn.proofs.explain.Tie as tie
 
@@ -43,19 +43,19 @@ enum-told-6 c = search rules
 
 returns : tie.Need-returns
 unfolding reason_text_of
-returns c = let a = c.before.before.before.before.args in tells-nothing _ a.line a.octets.now _ _ c.enum_told.given.1 refl
+returns c = let a = c.before.before.before.before.args in tells_nothing _ a.line a.octets.now _ _ c.enum_told.given.1 refl
 
 returns-2 : tie.Need-returns-2
 unfolding reason_text_of
-returns-2 c = let a = c.before.before.before.before.args in tells-nothing _ a.line a.octets.now _ _ c.enum-told2.given.1 refl
+returns-2 c = let a = c.before.before.before.before.args in tells_nothing _ a.line a.octets.now _ _ c.enum-told2.given.1 refl
 
 returns-3 : tie.Need-returns-3
 unfolding reason_text_of
-returns-3 c = let a = c.before.before.before.before.args in tells-nothing _ a.line a.octets.now _ _ c.enum-told3.given.1 refl
+returns-3 c = let a = c.before.before.before.before.args in tells_nothing _ a.line a.octets.now _ _ c.enum-told3.given.1 refl
 
 returns-4 : tie.Need-returns-4
 unfolding reason_text_of
-returns-4 c = let a = c.before.before.before.before.args in tells-nothing _ a.line a.octets.now _ _ c.enum-told4.given.1 refl
+returns-4 c = let a = c.before.before.before.before.args in tells_nothing _ a.line a.octets.now _ _ c.enum-told4.given.1 refl
 
 same_length : tie.Need-same-length
 same_length c = search rules
@@ -66,15 +66,15 @@ returns-5 c =
     let asked = printed.before.before in
     let told = asked.before.before.before in
     let a = told.before.before.before.before.args in
-    tells-why _ a.line a.octets.now _ _ _ asked.why.result told.line.given.1 asked.why.ensures printed.print-why.ensures
+    tells_why _ a.line a.octets.now _ _ _ asked.why.result told.line.given.1 asked.why.ensures printed.print-why.ensures
 
 returns-6 : tie.Need-returns-6
 unfolding reason_text_of
-returns-6 c = let a = c.before.before.before.before.args in tells-nothing _ a.line a.octets.now _ _ c.enum-told5.given.1 refl
+returns-6 c = let a = c.before.before.before.before.args in tells_nothing _ a.line a.octets.now _ _ c.enum-told5.given.1 refl
 
 returns-7 : tie.Need-returns-7
 unfolding reason_text_of
-returns-7 c = let a = c.before.before.before.before.args in tells-nothing _ a.line a.octets.now _ _ c.enum-told6.given.1 refl
+returns-7 c = let a = c.before.before.before.before.args in tells_nothing _ a.line a.octets.now _ _ c.enum-told6.given.1 refl
 
 pub explain_spec : {M : Type 1} → statement M
 explain_spec =

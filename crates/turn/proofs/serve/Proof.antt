@@ -2,7 +2,7 @@
 use borrow.Author.Rules.{rules}
 use mathlib.Core.Path.{sym}
 use lib.Seq.{length-take-le}
-use Rattle.turn.proofs.Turning.{heard_within, serves-write, serves-read, serves-pass, serves-reset, serves-packet, serves-sense, serves_none}
+use Rattle.turn.proofs.Turning.{heard_within, serves_write, serves_read, serves_pass, serves_reset, serves_packet, serves_sense, serves_none}
 use Rattle.turn.proofs.serve.Statement.{statement}
 use Rattle.turn.proofs.serve.Tie as tie
 
@@ -61,7 +61,7 @@ returns c =
     let told = done.before.before.before in
     let begun = told.before.before.before.before in
     let a = begun.args in
-    serves-write a.device a.line a.octets.now a.symbols.now begun.requires.2 _ _ _ _ told.line.given.1 done.write.ensures
+    serves_write a.device a.line a.octets.now a.symbols.now begun.requires.2 _ _ _ _ told.line.given.1 done.write.ensures
 
 same-length-2 : tie.Need-same-length-2
 same-length-2 c = search rules
@@ -72,7 +72,7 @@ returns-2 c =
     let told = done.before.before.before in
     let begun = told.before.before.before.before in
     let a = begun.args in
-    serves-read a.device a.line a.octets.now a.symbols.now begun.requires.2 _ _ _ told.line2.given.1 done.read.ensures
+    serves_read a.device a.line a.octets.now a.symbols.now begun.requires.2 _ _ _ told.line2.given.1 done.read.ensures
 
 same-length-3 : tie.Need-same-length-3
 same-length-3 c = search rules
@@ -83,7 +83,7 @@ returns-3 c =
     let told = done.before.before.before in
     let begun = told.before.before.before.before in
     let a = begun.args in
-    serves-pass a.device a.line a.octets.now a.symbols.now begun.requires.2 _ _ _ told.line3.given.1 done.pass.ensures
+    serves_pass a.device a.line a.octets.now a.symbols.now begun.requires.2 _ _ _ told.line3.given.1 done.pass.ensures
 
 same-length-4 : tie.Need-same-length-4
 same-length-4 c = search rules
@@ -94,7 +94,7 @@ returns-4 c =
     let told = done.before.before in
     let begun = told.before.before.before.before in
     let a = begun.args in
-    serves-reset a.device a.line a.octets.now a.symbols.now begun.requires.2 _ _ told.enum_told.given.1 done.hear-hard-reset.ensures
+    serves_reset a.device a.line a.octets.now a.symbols.now begun.requires.2 _ _ told.enum_told.given.1 done.hear-hard-reset.ensures
 
 same-length-5 : tie.Need-same-length-5
 same-length-5 c = search rules
@@ -105,7 +105,7 @@ returns-5 c =
     let told = done.before.before.before.before in
     let begun = told.before.before.before.before in
     let a = begun.args in
-    serves-packet a.device a.line a.octets.now a.symbols.now begun.requires.2 _ _ _ _ told.line4.given.1 done.hear-packet.ensures
+    serves_packet a.device a.line a.octets.now a.symbols.now begun.requires.2 _ _ _ _ told.line4.given.1 done.hear-packet.ensures
 
 same-length-6 : tie.Need-same-length-6
 same-length-6 c = search rules
@@ -116,7 +116,7 @@ returns-6 c =
     let told = done.before.before.before in
     let begun = told.before.before.before.before in
     let a = begun.args in
-    serves-sense a.device a.line a.octets.now a.symbols.now begun.requires.2 _ _ _ _ _ told.line5.given.1 done.sense.ensures
+    serves_sense a.device a.line a.octets.now a.symbols.now begun.requires.2 _ _ _ _ _ told.line5.given.1 done.sense.ensures
 
 returns-7 : tie.Need-returns-7
 returns-7 c =

@@ -1,6 +1,6 @@
 -- The outcome is told, or there is no more to tell.
 use borrow.Author.Rules.{rules}
-use Rattle.turn.proofs.Turning.{tells-outcome, told-before}
+use Rattle.turn.proofs.Turning.{tells_outcome, told_before}
 use Rattle.turn.proofs.tell_outcome.Statement.{statement}
 use Rattle.turn.proofs.tell_outcome.Tie as tie
 
@@ -19,10 +19,10 @@ same_length c = search rules
 returns : tie.Need-returns
 returns c =
     let printed = c.before.before in
-    tells-outcome _ _ _ _ _ _ printed.before.before.enum_told.given.1 printed.print-outcome.ensures
+    tells_outcome _ _ _ _ _ _ printed.before.before.enum_told.given.1 printed.print-outcome.ensures
 
 returns-2 : tie.Need-returns-2
-returns-2 c = told-before _ _ _ _ _ _ c.enum-told2.given.1
+returns-2 c = told_before _ _ _ _ _ _ c.enum-told2.given.1
 
 pub tell_outcome_spec : {M : Type 1} → statement M
 tell_outcome_spec =

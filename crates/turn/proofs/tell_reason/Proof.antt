@@ -1,6 +1,6 @@
 -- The reason is told, or what is told comes later.
 use borrow.Author.Rules.{rules}
-use Rattle.turn.proofs.Turning.{tells-reason, tells-later}
+use Rattle.turn.proofs.Turning.{tells_reason, tells_later}
 use Rattle.turn.proofs.tell_reason.Statement.{statement}
 use Rattle.turn.proofs.tell_reason.Tie as tie
 
@@ -14,7 +14,7 @@ explain-requires : tie.Need-explain-requires
 explain-requires c κs = search rules
 
 returns : tie.Need-returns
-returns c = tells-later _ _ _ _ _ _ c.enum_told.given.1
+returns c = tells_later _ _ _ _ _ _ c.enum_told.given.1
 
 same_length : tie.Need-same-length
 same_length c = search rules
@@ -22,7 +22,7 @@ same_length c = search rules
 returns-2 : tie.Need-returns-2
 returns-2 c =
     let printed = c.before.before in
-    tells-reason _ _ _ _ _ _ printed.before.before.enum-told2.given.1 printed.explain.ensures
+    tells_reason _ _ _ _ _ _ printed.before.before.enum-told2.given.1 printed.explain.ensures
 
 pub tell_reason_spec : {M : Type 1} → statement M
 tell_reason_spec =

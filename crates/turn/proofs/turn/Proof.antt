@@ -1,7 +1,7 @@
 -- Without room nothing is done; else the line is parsed, done and printed.
 use mathlib.Core.Path.{sym, ◌∙◌}
 use borrow.Author.Rules.{rules}
-use Rattle.turn.proofs.Turning.{parsed-heard, takes_none, takes_line}
+use Rattle.turn.proofs.Turning.{parsed_heard, takes_none, takes_line}
 use Rattle.turn.proofs.turn.Statement.{statement}
 use Rattle.turn.proofs.turn.Tie as tie
 
@@ -17,7 +17,7 @@ act-requires c κs =
     let test = parse.before.before in
     let begun = test.before.before.before.before in
     let a = begun.args in
-    (begun.requires, parsed-heard a.setup a.line.now _ _ _ parse.parsed.ensures, search rules, sym test.before.has_room.ensures ∙ test.if1.true)
+    (begun.requires, parsed_heard a.setup a.line.now _ _ _ parse.parsed.ensures, search rules, sym test.before.has_room.ensures ∙ test.if1.true)
 
 same_length : tie.Need-same-length
 same_length c = search rules

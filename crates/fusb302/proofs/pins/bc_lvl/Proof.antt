@@ -2,7 +2,7 @@
 use borrow.Author.Rules.{rules}
 use mathlib.Core.Path.{sym, ◌∙◌}
 use native.Mathlib.Omega.{arith}
-use Rattle.fusb302.proofs.Sensing.{level-pin, level-none, level-off}
+use Rattle.fusb302.proofs.Sensing.{level_pin, level_none, level_off}
 use Rattle.fusb302.proofs.pins.bc_lvl.Statement.{statement}
 use Rattle.fusb302.proofs.pins.bc_lvl.Tie as tie
 
@@ -24,7 +24,7 @@ returns c =
     let at-one-pin = at-voltage.before.before in
     let at-if1 = at-one-pin.before in (
       c.steps.ensures.0
-          ∙ sym (level-pin _ _ _ at-one-pin.one-pin.ensures _ (sym at-if1.before.has.ensures ∙ at-if1.if1.true) _ at-voltage.voltage.given.1),
+          ∙ sym (level_pin _ _ _ at-one-pin.one-pin.ensures _ (sym at-if1.before.has.ensures ∙ at-if1.if1.true) _ at-voltage.voltage.given.1),
       c.steps.ensures.1,
     )
 
@@ -35,10 +35,10 @@ returns-2 : tie.Need-returns-2
 returns-2 c =
     let at-one-pin = c.before.before in
     let at-if1 = at-one-pin.before in
-    (sym (level-none _ _ _ at-one-pin.one-pin.ensures _ (sym at-if1.before.has.ensures ∙ at-if1.if1.true) c.enum_told.given.1), omega arith)
+    (sym (level_none _ _ _ at-one-pin.one-pin.ensures _ (sym at-if1.before.has.ensures ∙ at-if1.if1.true) c.enum_told.given.1), omega arith)
 
 returns-3 : tie.Need-returns-3
-returns-3 c = (sym (level-off _ 0 _ _ (sym c.before.has.ensures ∙ c.if1.false)), omega arith)
+returns-3 c = (sym (level_off _ 0 _ _ (sym c.before.has.ensures ∙ c.if1.false)), omega arith)
 
 pub bc_lvl_spec : {M : Type 1} → statement M
 bc_lvl_spec =

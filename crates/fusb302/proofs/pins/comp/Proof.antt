@@ -1,7 +1,7 @@
 -- Power first; then VBUS, or the pin that is measured.
 use borrow.Author.Rules.{rules}
 use mathlib.Core.Path.{sym, ◌∙◌}
-use Rattle.fusb302.proofs.Sensing.{comp-pin, comp-none, comp_vbus, comp-off}
+use Rattle.fusb302.proofs.Sensing.{comp_pin, comp_none, comp_vbus, comp_off}
 use Rattle.fusb302.proofs.pins.comp.Statement.{statement}
 use Rattle.fusb302.proofs.pins.comp.Tie as tie
 
@@ -45,7 +45,7 @@ returns-2 c =
     let at-if1 = at-has2.before in
     c.above.ensures
     ∙ rw (c.before.on-cc.ensures, at_of.of.ensures.0)
-    (sym (comp-pin _ _ _ at-one-pin.one-pin.ensures _ (sym at-if1.before.has.ensures ∙ at-if1.if1.true) _ (sym at-has2.has2.ensures ∙ at-one-pin.before.if2.false) _ at-voltage.voltage.given.1))
+    (sym (comp_pin _ _ _ at-one-pin.one-pin.ensures _ (sym at-if1.before.has.ensures ∙ at-if1.if1.true) _ (sym at-has2.has2.ensures ∙ at-one-pin.before.if2.false) _ at-voltage.voltage.given.1))
 
 enum_told : tie.Need-enum-told
 enum_told c = search rules
@@ -55,10 +55,10 @@ returns-3 c =
     let at-one-pin = c.before.before in
     let at-has2 = at-one-pin.before.before in
     let at-if1 = at-has2.before in
-    sym (comp-none _ _ _ at-one-pin.one-pin.ensures _ (sym at-if1.before.has.ensures ∙ at-if1.if1.true) _ (sym at-has2.has2.ensures ∙ at-one-pin.before.if2.false) c.enum_told.given.1)
+    sym (comp_none _ _ _ at-one-pin.one-pin.ensures _ (sym at-if1.before.has.ensures ∙ at-if1.if1.true) _ (sym at-has2.has2.ensures ∙ at-one-pin.before.if2.false) c.enum_told.given.1)
 
 returns-4 : tie.Need-returns-4
-returns-4 c = sym (comp-off _ _ _ _ (sym c.before.has.ensures ∙ c.if1.false))
+returns-4 c = sym (comp_off _ _ _ _ (sym c.before.has.ensures ∙ c.if1.false))
 
 pub comp_spec : {M : Type 1} → statement M
 comp_spec =

@@ -5,7 +5,7 @@ use lib.ListN.{take}
 use lib.Seq.{length-take-le}
 use Rattle.line.specs.Kind.{common, kind_from}
 use Rattle.machine.specs.Queue.{set_symbol}
-use Rattle.fusb302.proofs.Queueing.{kind_is, kind-none}
+use Rattle.fusb302.proofs.Queueing.{kind_is, kind_none}
 use Rattle.fusb302.proofs.queue.kind_of.Statement.{statement}
 use Rattle.fusb302.proofs.queue.kind_of.Tie as tie
 
@@ -90,7 +90,7 @@ returns-6 c =
     let f = e.before.before.before in
     let g = f.before.before.before in
     let l = g.before.before.before.before.args.octets.now in (
-      kind-none (take 4 l) (length-take-le 4 l g.before.before.before.before.requires)
+      kind_none (take 4 l) (length-take-le 4 l g.before.before.before.before.requires)
           (sym g.before.begins.ensures ∙ g.if1.false)
           (sym f.before.begins2.ensures ∙ f.if2.false)
           (sym e.before.begins3.ensures ∙ e.if3.false)

@@ -2,7 +2,7 @@
 use borrow.Author.Rules.{rules}
 use native.Mathlib.Omega.{arith}
 use mathlib.Core.Logic.{⊎_elim}
-use Rattle.fusb302.proofs.Sending.{put-said, put-sent}
+use Rattle.fusb302.proofs.Sending.{put_said, put_sent}
 use Rattle.fusb302.proofs.send.put.Statement.{statement}
 use Rattle.fusb302.proofs.send.put.Tie as tie
 
@@ -19,7 +19,7 @@ returns : tie.Need-returns
 returns c =
     let at-write-frame = c.before.before.before in
     let start = at-write-frame.before.before.before.before in
-    let said = rw (put-said _ _ _ _ start.requires.0 start.requires.1 at-write-frame.write-frame.ensures) at c.match.keys2 in
+    let said = rw (put_said _ _ _ _ start.requires.0 start.requires.1 at-write-frame.write-frame.ensures) at c.match.keys2 in
     absurd (⊎_elim (λ a. omega arith) (⊎_elim (λ a. omega arith) (λ a. omega arith)) said)
 
 same-length-2 : tie.Need-same-length-2
@@ -30,7 +30,7 @@ returns-2 c =
     let at_count = c.before in
     let at-write-frame = at_count.before.before.before.before in
     let start = at-write-frame.before.before.before.before in
-    put-sent _ _ _ _ start.requires.0 start.requires.1 at-write-frame.write-frame.ensures _ at_count.count.given.1
+    put_sent _ _ _ _ start.requires.0 start.requires.1 at-write-frame.write-frame.ensures _ at_count.count.given.1
 
 pub put_spec : {M : Type 1} → statement M
 put_spec =

@@ -2,7 +2,7 @@
 use borrow.Author.Rules.{rules}
 use native.Mathlib.Omega.{arith}
 use Rattle.machine.proofs.Spelling.{spelt_whole}
-use Rattle.fusb302.proofs.Sending.{unspelt, in_array, spelt-in-array}
+use Rattle.fusb302.proofs.Sending.{unspelt, in_array, spelt_in_array}
 use Rattle.fusb302.proofs.send.put_message.Statement.{statement}
 use Rattle.fusb302.proofs.send.put_message.Tie as tie
 
@@ -26,18 +26,18 @@ part-put-start c = search rules
 
 part-put-end : tie.Need-slice-bounds-put-end
 part-put-end c =
-    let at-kind = c.before.before.before in
-    let at-message = at-kind.before.before in
+    let at_kind = c.before.before.before in
+    let at-message = at_kind.before.before in
     let start = at-message.before.before in
-    in_array start.args.tx _ at-message.message.ensures _ _ at-kind.kind.given.1
+    in_array start.args.tx _ at-message.message.ensures _ _ at_kind.kind.given.1
 
 put-requires : tie.Need-put-requires
 put-requires c κs =
     let at-octets2 = c.before.before in
-    let at-kind = at-octets2.before.before.before in
-    let at-message = at-kind.before.before in
+    let at_kind = at-octets2.before.before.before in
+    let at-message = at_kind.before.before in
     let start = at-message.before.before in
-    (spelt_whole _ _ start.requires.1 (spelt-in-array start.args.tx _ at-message.message.ensures _ _ at-kind.kind.given.1), start.requires.2)
+    (spelt_whole _ _ start.requires.1 (spelt_in_array start.args.tx _ at-message.message.ensures _ _ at_kind.kind.given.1), start.requires.2)
 
 enum_told : tie.Need-enum-told
 enum_told c = search rules
@@ -49,10 +49,10 @@ returns : tie.Need-returns
 returns c =
     let at-put = c.before.before in
     let at-octets2 = at-put.before.before.before in
-    let at-kind = at-octets2.before.before.before in
-    let at-message = at-kind.before.before in
+    let at_kind = at-octets2.before.before.before in
+    let at-message = at_kind.before.before in
     let start = at-message.before.before in
-    rw (spelt-in-array start.args.tx _ at-message.message.ensures _ _ at-kind.kind.given.1) at-put.put.ensures
+    rw (spelt_in_array start.args.tx _ at-message.message.ensures _ _ at_kind.kind.given.1) at-put.put.ensures
 
 returns-2 : tie.Need-returns-2
 returns-2 c = unspelt c.before.before.before.before.args.tx _ c.before.before.message.ensures c.enum_told.given.1 _

@@ -122,12 +122,12 @@ module _ {M : Type 1} {𝓤 : Ura M} (𝓛 : Logic 𝓤) (at_mem : Memory → SP
   abbrev d' : Moved → Reader
   d' r = record { line = d.line; at = r.at }
 
-  abbrev mach-m : Moved → Val
-  mach-m r = LL.val G.the_type G'.the_laws r
+  abbrev mach_m : Moved → Val
+  mach_m r = LL.val G.the_type G'.the_laws r
 
   -- the answer's machine value
-  abbrev mach-a : Moved → Val
-  mach-a r = (G'.the_laws).0.val ((S.the_field).into r.answer)
+  abbrev mach_a : Moved → Val
+  mach_a r = (G'.the_laws).0.val ((S.the_field).into r.answer)
 
   abbrev Post : Val → SProp 𝓤
   Post = (walk_of 𝓛 next.ended stayed (next.clauses 𝓛 at_mem run)).post (((κ, (κ', (κ'', tt))), (q, (q', (q'', tt))), bounds, a, vals), tt)
@@ -145,23 +145,23 @@ module _ {M : Type 1} {𝓤 : Ura M} (𝓛 : Logic 𝓤) (at_mem : Memory → SP
   abbrev κs : Lfts 2
   κs = (κ', (κ'', tt))
 
-  abbrev Given-on : Type 0
-  Given-on = Bor (List ℕ) × (Cursor × (Bor (List ℕ) × Unit {0}))
+  abbrev GivenOn : Type 0
+  GivenOn = Bor (List ℕ) × (Cursor × (Bor (List ℕ) × Unit {0}))
 
-  abbrev given-on : Given-on
-  given-on = (d.line, (d.at, (x, tt)))
+  abbrev given_on : GivenOn
+  given_on = (d.line, (d.at, (x, tt)))
 
   abbrev passed : Vals step-at.signature κs
   passed = (v ∷ [], (K'.lowered d.at ∷ [], (s ∷ [], tt)))
 
   abbrev to : (StepAt 𝓛 at_mem run).Ghost
-  to = ((κs, (q', (q'', tt)), tt, given-on, passed), tt)
+  to = ((κs, (q', (q'', tt)), tt, given_on, passed), tt)
 
   abbrev Out : Fml
   Out = owns (MutSlice (named 2) κ'' u8 ∷ []) (x, tt) (s ∷ [], tt)
 
-  asked : ent 𝓤 (on_entry 𝓛 step-at.signature κs (q', (q'', tt)) given-on passed) ((StepAt 𝓛 at_mem run).pre to)
-  asked = qed 𝓛 ((‵ (flft κ' q') ⊛ ‵ (flft κ'' q'') ⊛ ‵ ftrue) ∷ ‵ (owns (ShrSlice (named 0) κ' u8 ∷ K.the_row ∷ MutSlice (named 1) κ'' u8 ∷ []) given-on passed) ∷ []) ∵ join ! $ frame ! $ done !
+  asked : ent 𝓤 (on_entry 𝓛 step-at.signature κs (q', (q'', tt)) given_on passed) ((StepAt 𝓛 at_mem run).pre to)
+  asked = qed 𝓛 ((‵ (flft κ' q') ⊛ ‵ (flft κ'' q'') ⊛ ‵ ftrue) ∷ ‵ (owns (ShrSlice (named 0) κ' u8 ∷ K.the_row ∷ MutSlice (named 1) κ'' u8 ∷ []) given_on passed) ∷ []) ∵ join ! $ frame ! $ done !
 
   -- what the struct owns, the tokens and the octets give what the callee asks
   apart : Is K.the_row d.at (K'.lowered d.at ∷ []) → ent 𝓤 (⋆ 𝓛 (‵ Own ∷ (‵ (flft κ' q') ⊛ ‵ (flft κ'' q'') ⊛ ‵ ftrue) ∷ ‵ Out ∷ [])) ((StepAt 𝓛 at_mem run).pre to)
@@ -177,14 +177,14 @@ module _ {M : Type 1} {𝓤 : Ura M} (𝓛 : Logic 𝓤) (at_mem : Memory → SP
   again r fits = qed 𝓛 (‵ Own ∷ []) ∵ owned ! K.the_row (Is K.the_row) (LL.makes K.the_type K'.the_plain 𝓛) r.at _ fits $ move ! (1 ∷ 0 ∷ []) $ by ! (own_put 𝓛 (D κ') (L κ') 1 vd r.at mach)
 
   exits : (r : Moved) (u : Val) (zs : List ℕ) → Found r zs → length zs ≡ length ys
-      → ent 𝓤 (⋆ 𝓛 (‵ (fobs γ ((B κ').coded.code (d' r))) ∷ ‵ (fbor κ (Body (mem (B κ')) b o γ)) ∷ ‵ (flft κ q) ∷ ‵ ((G.the_row).own_val r (u ∷ [])) ∷ (‵ (flft κ' q') ⊛ ‵ (flft κ'' q'') ⊛ ‵ ftrue) ∷ ‵ (finally u8 γ' zs) ∷ [])) (Post (mach-a r))
+      → ent 𝓤 (⋆ 𝓛 (‵ (fobs γ ((B κ').coded.code (d' r))) ∷ ‵ (fbor κ (Body (mem (B κ')) b o γ)) ∷ ‵ (flft κ q) ∷ ‵ ((G.the_row).own_val r (u ∷ [])) ∷ (‵ (flft κ' q') ⊛ ‵ (flft κ'' q'') ⊛ ‵ ftrue) ∷ ‵ (finally u8 γ' zs) ∷ [])) (Post (mach_a r))
   exits r u zs e l =
       qed 𝓛 (‵ (fobs γ ((B κ').coded.code (d' r))) ∷ ‵ (fbor κ (Body (mem (B κ')) b o γ)) ∷ ‵ (flft κ q) ∷ ‵ ((G.the_row).own_val r (u ∷ [])) ∷ (‵ (flft κ' q') ⊛ ‵ (flft κ'' q'') ⊛ ‵ ftrue) ∷ ‵ (finally u8 γ' zs) ∷ []) ∵
-      suffices ! _ (ends_at 𝓛 next.ended stayed (next.clauses 𝓛 at_mem run) (((κ, (κ', (κ'', tt))), (q, (q', (q'', tt))), bounds, a, vals), tt) (mach-a r) r.answer (d' r, (zs, tt)) (tt, (l, tt))) $ says ! (record { holds = refl; steps = e }) $
+      suffices ! _ (ends_at 𝓛 next.ended stayed (next.clauses 𝓛 at_mem run) (((κ, (κ', (κ'', tt))), (q, (q', (q'', tt))), bounds, a, vals), tt) (mach_a r) r.answer (d' r, (zs, tt)) (tt, (l, tt))) $ says ! (record { holds = refl; steps = e }) $
       move ! (2 ∷ 4 ∷ []) $ join ! $ frame ! $
       -- [obs; the borrow; what the answer and its place own; the last list]
       feq_i ! (List Val) (vptr b o ∷ []) (vptr b o ∷ []) refl $ fjoin3 ! $ nothing ! $ move ! (3 ∷ 0 ∷ []) $ fjoin ! $ move ! (1 ∷ 0 ∷ []) $ fjoin ! $ frame ! $
-      use1 𝓛 (given (u ∷ [] ≡ mach-m r ∷ []) (‵ (all_own (G.the_type).parts G'.the_laws (vm r)))) (own_open 𝓛 G.the_type G'.the_laws (vm r) u) $ learn ! (λ _. use1 𝓛 (‵ (field_own (G.the_type).parts G'.the_laws 0 r.answer) ⊛ ‵ (rest (G.the_type).parts G'.the_laws 0 (vm r))) (own_out 𝓛 (G.the_type).parts G'.the_laws 0 (vm r)) $ split ! $
+      use1 𝓛 (given (u ∷ [] ≡ mach_m r ∷ []) (‵ (all_own (G.the_type).parts G'.the_laws (vm r)))) (own_open 𝓛 G.the_type G'.the_laws (vm r) u) $ learn ! (λ _. use1 𝓛 (‵ (field_own (G.the_type).parts G'.the_laws 0 r.answer) ⊛ ‵ (rest (G.the_type).parts G'.the_laws 0 (vm r))) (own_out 𝓛 (G.the_type).parts G'.the_laws 0 (vm r)) $ split ! $
       move ! (1 ∷ []) $ drop ! $ done !)
 
   module _ (C : Calls 𝓤 H) (Λ : Loops 𝓤 H) (fm : FmC 𝓤 H 𝓛.laws C) (known : Triple 𝓤 (C #reader·step-at) (StepAt 𝓛 at_mem run)) where
@@ -206,9 +206,9 @@ module _ {M : Type 1} {𝓤 : Ura M} (𝓛 : Logic 𝓤) (at_mem : Memory → SP
         move ! (0 ∷ 6 ∷ 7 ∷ []) $ use3 𝓛 (raw ((StepAt 𝓛 at_mem run).pre to)) (apart (LL.owed (D κ') (L κ') d _ was).1.0) $
         -- [what the callee asks; what the reader owns; its cell; the open borrow; obs; auth; _7; …]
         calls_at ! fm (StepAt 𝓛 at_mem run) known to (and_then ! (load ! (from ! (stop !)) (look ! 12 refl)) (and_then ! (load ! (from ! (stop !)) (look ! 10 refl)) (and_then ! (load ! (from ! (stop !)) (look ! 6 refl)) (no_more !)))) (λ u.
-        use1 𝓛 (later (some (λ (r : Moved). ((‵ (flft κ' q') ⊛ ‵ (flft κ'' q'') ⊛ ‵ ftrue) ⊛ ‵ ((G.the_row).own_val r (u ∷ []))) ⊛ raw (ensured 𝓛 step-at.ended (step-at.clauses 𝓛 at_mem run) κs given-on tt r)))) (id⊢ 𝓤 _) $ await ! tt $ pick ! (λ r.
+        use1 𝓛 (later (some (λ (r : Moved). ((‵ (flft κ' q') ⊛ ‵ (flft κ'' q'') ⊛ ‵ ftrue) ⊛ ‵ ((G.the_row).own_val r (u ∷ []))) ⊛ raw (ensured 𝓛 step-at.ended (step-at.clauses 𝓛 at_mem run) κs given_on tt r)))) (id⊢ 𝓤 _) $ await ! tt $ pick ! (λ r.
         -- what `step_at` ensures, at some last list
-        split ! $ move ! (1 ∷ []) $ use1 𝓛 (some (λ (zs : Unit {0} × (Unit {0} × (List ℕ × Unit {0}))). ‵ (lasts step-at.ended κs given-on zs) ⊛ raw (fact 𝓤 (Found r zs.1.1.0)))) (id⊢ 𝓤 _) $ pick ! (λ zs.
+        split ! $ move ! (1 ∷ []) $ use1 𝓛 (some (λ (zs : Unit {0} × (Unit {0} × (List ℕ × Unit {0}))). ‵ (lasts step-at.ended κs given_on zs) ⊛ raw (fact 𝓤 (Found r zs.1.1.0)))) (id⊢ 𝓤 _) $ pick ! (λ zs.
         split ! $ move ! (1 ∷ []) $ heard ! (Found r zs.1.1.0) (λ e.
         fsplit ! $ drop ! $ fsplit ! $ drop ! $ fsplit ! $ move ! (1 ∷ []) $ drop ! $ fsplit ! $ move ! (1 ∷ []) $ feq_l ! (λ l.
         move ! (1 ∷ []) $ split ! $ move ! (1 ∷ []) $

@@ -1,6 +1,6 @@
 -- The count's answer, unless it is too large.
 use borrow.Author.Rules.{rules}
-use Rattle.script.proofs.Voltages.{low, high, none-there}
+use Rattle.script.proofs.Voltages.{low, high, none_there}
 use Rattle.script.proofs.parse.millivolts.Statement.{statement}
 use Rattle.script.proofs.parse.millivolts.Tie as tie
 
@@ -24,7 +24,7 @@ returns-2 c =
     record { says = high _ _ at-v.before.before.decimal.ensures.says _ at-v.v.given.1 c.if1.false; few = tt }
 
 returns-3 : tie.Need-returns-3
-returns-3 c = record { says = none-there _ _ c.before.before.decimal.ensures.says c.enum_told.given.1; few = tt }
+returns-3 c = record { says = none_there _ _ c.before.before.decimal.ensures.says c.enum_told.given.1; few = tt }
 
 pub millivolts_spec : {M : Type 1} → statement M
 millivolts_spec =

@@ -2,8 +2,8 @@
 use mathlib.Core.Path.{sym, ◌∙◌}
 use borrow.Author.Rules.{rules}
 use lib.Seq.{length-take-le}
-use Rattle.script.proofs.Numbers.{is-count, no-count}
-use Rattle.script.proofs.Lines.{no_kind, no_octets, enough, all-heard}
+use Rattle.script.proofs.Numbers.{is_count, no_count}
+use Rattle.script.proofs.Lines.{no_kind, no_octets, enough, all_heard}
 use Rattle.script.proofs.parse.packet.Statement.{statement}
 use Rattle.script.proofs.parse.packet.Tie as tie
 
@@ -38,7 +38,7 @@ store-octets-requires c κs =
     let counted = known.before.before in
     let digits = counted.before.before in
     let begun = digits.before.before.before in
-    (sym looked.are-octets.ensures ∙ c.before.if1.true, enough _ begun.args.octets.now _ digits.digits_in.ensures.0 _ (is-count _ _ counted.decimal.ensures.says _ known.kind.given.1) begun.requires.0 begun.requires.1 digits.digits_in.ensures.1)
+    (sym looked.are-octets.ensures ∙ c.before.if1.true, enough _ begun.args.octets.now _ digits.digits_in.ensures.0 _ (is_count _ _ counted.decimal.ensures.says _ known.kind.given.1) begun.requires.0 begun.requires.1 digits.digits_in.ensures.1)
 
 same_length : tie.Need-same-length
 same_length c = search rules
@@ -51,7 +51,7 @@ returns c =
     let counted = known.before.before in
     let digits = counted.before.before in
     let begun = digits.before.before.before in
-    all-heard _ _ _ digits.digits_in.ensures.0 _ (is-count _ _ counted.decimal.ensures.says _ known.kind.given.1) begun.requires.0 begun.requires.1 digits.digits_in.ensures.1 _ _ (sym looked.are-octets.ensures ∙ stored.before.before.if1.true) stored.store-octets.ensures.0 stored.store-octets.ensures.1
+    all_heard _ _ _ digits.digits_in.ensures.0 _ (is_count _ _ counted.decimal.ensures.says _ known.kind.given.1) begun.requires.0 begun.requires.1 digits.digits_in.ensures.1 _ _ (sym looked.are-octets.ensures ∙ stored.before.before.if1.true) stored.store-octets.ensures.0 stored.store-octets.ensures.1
 
 enum_told : tie.Need-enum-told
 enum_told c = search rules
@@ -60,12 +60,12 @@ returns-2 : tie.Need-returns-2
 returns-2 c =
     let known = c.before.before.before.before in
     let counted = known.before.before in
-    no_octets _ _ _ counted.before.before.digits_in.ensures.0 _ (is-count _ _ counted.decimal.ensures.says _ known.kind.given.1) (sym c.before.are-octets.ensures ∙ c.if1.false)
+    no_octets _ _ _ counted.before.before.digits_in.ensures.0 _ (is_count _ _ counted.decimal.ensures.says _ known.kind.given.1) (sym c.before.are-octets.ensures ∙ c.if1.false)
 
 returns-3 : tie.Need-returns-3
 returns-3 c =
     let counted = c.before.before in
-    no_kind _ _ _ counted.before.before.digits_in.ensures.0 (no-count _ _ counted.decimal.ensures.says c.enum_told.given.1)
+    no_kind _ _ _ counted.before.before.digits_in.ensures.0 (no_count _ _ counted.decimal.ensures.says c.enum_told.given.1)
 
 pub packet_spec : {M : Type 1} → statement M
 packet_spec =

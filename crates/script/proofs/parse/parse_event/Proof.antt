@@ -4,7 +4,7 @@ use native.Mathlib.Omega.{arith}
 use borrow.Author.Rules.{rules}
 use lib.ListN.{length-take}
 use Rattle.script.proofs.Masks.{fits_length}
-use Rattle.script.proofs.Lines.{long, is-write, is_read, is-reset, tiny, is-time, is-packet, is-sense, other}
+use Rattle.script.proofs.Lines.{long, is_write, is_read, is_reset, tiny, is_time, is_packet, is_sense, other}
 use Rattle.script.proofs.parse.parse_event.Statement.{statement}
 use Rattle.script.proofs.parse.parse_event.Tie as tie
 
@@ -26,7 +26,7 @@ octet-at-requires-2 c κs = let test = c.before in let e = fits_length _ _ (sym 
 returns-2 : tie.Need-returns-2
 returns-2 c =
     let w = c.before.before in
-    is-write _ _ w.before.before.before.if1.false _ _ (sym w.before.fits2.ensures ∙ w.if2.true) c.before.octet-at.ensures c.octet-at2.ensures
+    is_write _ _ w.before.before.before.if1.false _ _ (sym w.before.fits2.ensures ∙ w.if2.true) c.before.octet-at.ensures c.octet-at2.ensures
 
 slice-aggregate-fits-2 : tie.Need-slice-aggregate-fits-2
 slice-aggregate-fits-2 c = search rules
@@ -54,7 +54,7 @@ returns-4 c =
     let h = c in
     let r = h.before.before.before in
     let w = r.before.before.before in
-    is-reset _ _ w.before.before.before.if1.false (sym w.before.fits2.ensures ∙ w.if2.false) (sym r.before.fits3.ensures ∙ r.if3.false) (sym h.before.fits4.ensures ∙ h.if4.true)
+    is_reset _ _ w.before.before.before.if1.false (sym w.before.fits2.ensures ∙ w.if2.false) (sym r.before.fits3.ensures ∙ r.if3.false) (sym h.before.fits4.ensures ∙ h.if4.true)
 
 returns-5 : tie.Need-returns-5
 returns-5 c =
@@ -91,7 +91,7 @@ returns-6 c =
     let h = head.before.before.before in
     let r = h.before.before.before in
     let w = r.before.before.before in
-    is-time _ _ w.before.before.before.if1.false (sym w.before.fits2.ensures ∙ w.if2.false) (sym r.before.fits3.ensures ∙ r.if3.false) (sym h.before.fits4.ensures ∙ h.if4.false) _ (sym t.before.fits5.ensures ∙ t.if6.true) c.time.ensures
+    is_time _ _ w.before.before.before.if1.false (sym w.before.fits2.ensures ∙ w.if2.false) (sym r.before.fits3.ensures ∙ r.if3.false) (sym h.before.fits4.ensures ∙ h.if4.false) _ (sym t.before.fits5.ensures ∙ t.if6.true) c.time.ensures
 
 slice-aggregate-fits-5 : tie.Need-slice-aggregate-fits-5
 slice-aggregate-fits-5 c = search rules
@@ -119,7 +119,7 @@ returns-7 c =
     let h = head.before.before.before in
     let r = h.before.before.before in
     let w = r.before.before.before in
-    is-packet _ _ w.before.before.before.if1.false (sym w.before.fits2.ensures ∙ w.if2.false) (sym r.before.fits3.ensures ∙ r.if3.false) (sym h.before.fits4.ensures ∙ h.if4.false) (sym t.before.fits5.ensures ∙ t.if6.false) _ _ (sym p.before.fits6.ensures ∙ p.if7.true) c.packet.ensures
+    is_packet _ _ w.before.before.before.if1.false (sym w.before.fits2.ensures ∙ w.if2.false) (sym r.before.fits3.ensures ∙ r.if3.false) (sym h.before.fits4.ensures ∙ h.if4.false) (sym t.before.fits5.ensures ∙ t.if6.false) _ _ (sym p.before.fits6.ensures ∙ p.if7.true) c.packet.ensures
 
 slice-aggregate-fits-6 : tie.Need-slice-aggregate-fits-6
 slice-aggregate-fits-6 c = search rules
@@ -148,7 +148,7 @@ returns-8 c =
     let h = head.before.before.before in
     let r = h.before.before.before in
     let w = r.before.before.before in
-    is-sense _ _ w.before.before.before.if1.false (sym w.before.fits2.ensures ∙ w.if2.false) (sym r.before.fits3.ensures ∙ r.if3.false) (sym h.before.fits4.ensures ∙ h.if4.false) (sym t.before.fits5.ensures ∙ t.if6.false) (sym p.before.fits6.ensures ∙ p.if7.false) _ (sym v.before.fits7.ensures ∙ v.if8.true) c.voltages.ensures
+    is_sense _ _ w.before.before.before.if1.false (sym w.before.fits2.ensures ∙ w.if2.false) (sym r.before.fits3.ensures ∙ r.if3.false) (sym h.before.fits4.ensures ∙ h.if4.false) (sym t.before.fits5.ensures ∙ t.if6.false) (sym p.before.fits6.ensures ∙ p.if7.false) _ (sym v.before.fits7.ensures ∙ v.if8.true) c.voltages.ensures
 
 returns-9 : tie.Need-returns-9
 returns-9 c =

@@ -4,7 +4,7 @@ use mathlib.Core.Option.{Option}
 use Prim.Native.Nat.{ℕ}
 use borrow.Author.Rules.{rules}
 use Rattle.script.specs.Parse.{timed, line_of}
-use Rattle.script.proofs.Numbers.{is-count, no-count}
+use Rattle.script.proofs.Numbers.{is_count, no_count}
 use Rattle.script.proofs.parse.time.Statement.{statement}
 use Rattle.script.proofs.parse.time.Tie as tie
 
@@ -18,10 +18,10 @@ enum_told : tie.Need-enum-told
 enum_told c = search rules
 
 returns : tie.Need-returns
-returns c = ap (λ (x : Option ℕ). line_of (timed x)) (sym (is-count _ _ c.before.before.before.decimal.ensures.says _ c.before.t.given.1))
+returns c = ap (λ (x : Option ℕ). line_of (timed x)) (sym (is_count _ _ c.before.before.before.decimal.ensures.says _ c.before.t.given.1))
 
 returns-2 : tie.Need-returns-2
-returns-2 c = ap (λ (x : Option ℕ). line_of (timed x)) (sym (no-count _ _ c.before.before.decimal.ensures.says c.enum_told.given.1))
+returns-2 c = ap (λ (x : Option ℕ). line_of (timed x)) (sym (no_count _ _ c.before.before.decimal.ensures.says c.enum_told.given.1))
 
 pub time_spec : {M : Type 1} → statement M
 time_spec = tie.close (tie.spec decimal-requires enum-known-t enum_told returns returns-2)

@@ -4,7 +4,7 @@ use native.Mathlib.Omega.{arith}
 use borrow.Author.Rules.{rules}
 use borrow.Fn.Kinds.{In}
 use borrow.Fn.PlainCycle.{Measures, is, falls, and}
-use Rattle.text.proofs.Texts.{few, stop, last-digit, other-digits}
+use Rattle.text.proofs.Texts.{few, stop, last_digit, other_digits}
 use Rattle.text.proofs.lay.lay_decimal.Reads as lay-decimal
 use Rattle.text.proofs.lay.lay_decimal.Kinds as lay-decimal-kinds
 use Rattle.text.proofs.lay.+lay_decimal.Lts-lay_decimal as lay-decimal-lts
@@ -72,7 +72,7 @@ lay_decimal_returns_2 : (t : ℕ) → lay-decimal-lts.Need-returns-2 (
 lay_decimal_returns_2 t c =
     let laid = c.before.before in
     let one = laid.before.before in
-    last-digit _ _ _ _ one.before.if1.false one.if2.true laid.lay.ensures
+    last_digit _ _ _ _ one.before.if1.false one.if2.true laid.lay.ensures
 
 lay_decimal_sub_lay_decimal : (t : ℕ) → lay-decimal-lts.Need-overflow-sub-lay-decimal (
   lay-reads.Asked,
@@ -137,7 +137,7 @@ lay_decimal_returns_3 t c =
     let last = c.before.before in
     let others = last.before.before.before.before in
     let more = others.before.before in
-    other-digits _ _ _ _ more.before.if1.false more.if2.false others.lay-decimal.ensures last.lay2.ensures
+    other_digits _ _ _ _ more.before.if1.false more.if2.false others.lay-decimal.ensures last.lay2.ensures
 
 pub +lay-decimal-spec : {M : Type 1} → statement M
 +lay-decimal-spec = close μ-lay-decimal λ t. lay-decimal-lts.spec (

@@ -1,6 +1,6 @@
 -- What is noted is the state that is stored in, if there is room.
 use borrow.Author.Rules.{rules}
-use Rattle.fusb302.proofs.Hearing.{has_room, no_room, accepts-stores, accepts-full}
+use Rattle.fusb302.proofs.Hearing.{has_room, no_room, accepts_stores, accepts_full}
 use Rattle.fusb302.proofs.device.Device.accept.Statement.{statement}
 use Rattle.fusb302.proofs.device.Device.accept.Tie as tie
 
@@ -48,7 +48,7 @@ returns c =
     let at-checked = at-acknowledged.before in
     let at-awaits = at-checked.before in
     let entry = at-awaits.before.before.before in
-    accepts-stores entry.args.self at-checked.checked.result at-acknowledged.acknowledged.result at-soft-reset.soft-reset.result _ _ _ _ at-awaits.awaits.ensures at-is-control.is_control.ensures at-checked.checked.ensures at-acknowledged.acknowledged.ensures at-soft-reset.soft-reset.ensures (has_room at-soft-reset.soft-reset.result at-soft-reset.soft-reset.ensures.arranged entry.args.packet.now at-if1.if1.true) _ _ _ c.before.before.store.ensures
+    accepts_stores entry.args.self at-checked.checked.result at-acknowledged.acknowledged.result at-soft-reset.soft-reset.result _ _ _ _ at-awaits.awaits.ensures at-is-control.is_control.ensures at-checked.checked.ensures at-acknowledged.acknowledged.ensures at-soft-reset.soft-reset.ensures (has_room at-soft-reset.soft-reset.result at-soft-reset.soft-reset.ensures.arranged entry.args.packet.now at-if1.if1.true) _ _ _ c.before.before.store.ensures
 
 raises-requires : tie.Need-raises-requires
 raises-requires c κs = search rules
@@ -65,7 +65,7 @@ returns-2 c =
     let at-awaits = at-checked.before in
     let entry = at-awaits.before.before.before in
     rw c.done.ensures
-    (accepts-full entry.args.self at-checked.checked.result at-acknowledged.acknowledged.result at-soft-reset.soft-reset.result _ _ _ _ at-awaits.awaits.ensures at-is-control.is_control.ensures at-checked.checked.ensures at-acknowledged.acknowledged.ensures at-soft-reset.soft-reset.ensures (no_room at-soft-reset.soft-reset.result at-soft-reset.soft-reset.ensures.arranged entry.args.packet.now c.before.before.if1.false) c.before.raises.result c.before.raises.ensures _)
+    (accepts_full entry.args.self at-checked.checked.result at-acknowledged.acknowledged.result at-soft-reset.soft-reset.result _ _ _ _ at-awaits.awaits.ensures at-is-control.is_control.ensures at-checked.checked.ensures at-acknowledged.acknowledged.ensures at-soft-reset.soft-reset.ensures (no_room at-soft-reset.soft-reset.result at-soft-reset.soft-reset.ensures.arranged entry.args.packet.now c.before.before.if1.false) c.before.raises.result c.before.raises.ensures _)
 
 pub accept_spec : {M : Type 1} → statement M
 accept_spec =

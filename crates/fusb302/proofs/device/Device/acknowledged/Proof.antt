@@ -1,7 +1,7 @@
 -- The request is over and I_TXSENT set, or nothing is changed.
 use borrow.Author.Rules.{rules}
 use Rattle.machine.specs.Requests.{acknowledged}
-use Rattle.fusb302.proofs.Hearing.{not_noted, ends-request}
+use Rattle.fusb302.proofs.Hearing.{not_noted, ends_request}
 use Rattle.fusb302.proofs.device.Device.acknowledged.Statement.{statement}
 use Rattle.fusb302.proofs.device.Device.acknowledged.Tie as tie
 
@@ -12,7 +12,7 @@ raises-a-requires : tie.Need-raises-a-requires
 raises-a-requires c κs = search rules
 
 returns : tie.Need-returns
-returns c = ends-request c.before.before.before.args.self c.before.before.before.requires _ c.before.before.if1.true c.before.over.result c.raises-a.result c.before.over.ensures c.raises-a.ensures
+returns c = ends_request c.before.before.before.args.self c.before.before.before.requires _ c.before.before.if1.true c.before.over.result c.raises-a.result c.before.over.ensures c.raises-a.ensures
 
 returns-2 : tie.Need-returns-2
 returns-2 c = not_noted c.before.args.self c.before.requires _ c.if1.false acknowledged

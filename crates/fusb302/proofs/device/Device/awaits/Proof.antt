@@ -2,7 +2,7 @@
 use borrow.Author.Rules.{rules}
 use mathlib.Core.Path.{sym, ◌∙◌}
 use native.Mathlib.Omega.{arith}
-use Rattle.fusb302.proofs.Hearing.{awaits-idle, awaits-other, awaits-reset, awaits-nothing, awaits-message}
+use Rattle.fusb302.proofs.Hearing.{awaits_idle, awaits_other, awaits_reset, awaits_nothing, awaits_message}
 use Rattle.fusb302.proofs.device.Device.awaits.Statement.{statement}
 use Rattle.fusb302.proofs.device.Device.awaits.Tie as tie
 
@@ -17,7 +17,7 @@ returns c =
     let at-if2 = c.before.before.before in
     let at-if1 = at-if2.before.before in
     let entry = at-if1.before.before in
-    awaits-reset entry.args.self _ _ at-if1.if1.true (sym at-if2.before.is_control.ensures ∙ at-if2.if2.true) c.before.if3.true _ c.answers.ensures
+    awaits_reset entry.args.self _ _ at-if1.if1.true (sym at-if2.before.is_control.ensures ∙ at-if2.if2.true) c.before.if3.true _ c.answers.ensures
 
 message-requires : tie.Need-message-requires
 message-requires c κs = search rules
@@ -54,7 +54,7 @@ returns-2 c =
     let at-is-control = at-if2.before in
     let at-if1 = at-is-control.before in
     let entry = at-if1.before.before in
-    awaits-message entry.args.self _ _ at-if1.if1.true at-if3.if3.false _ at-message.message.ensures (sym at-is-control.is_control.ensures ∙ at-if2.if2.true) _ _ at-sent.sent.given.1 _ at-message-id.message-id.ensures.0 _ c.answers2.ensures
+    awaits_message entry.args.self _ _ at-if1.if1.true at-if3.if3.false _ at-message.message.ensures (sym at-is-control.is_control.ensures ∙ at-if2.if2.true) _ _ at-sent.sent.given.1 _ at-message-id.message-id.ensures.0 _ c.answers2.ensures
 
 enum_told : tie.Need-enum-told
 enum_told c = search rules
@@ -64,13 +64,13 @@ returns-3 c =
     let at-if3 = c.before.before.before.before in
     let at-if1 = at-if3.before.before.before.before in
     let entry = at-if1.before.before in
-    awaits-nothing entry.args.self _ _ at-if1.if1.true at-if3.if3.false _ c.before.before.message.ensures c.enum_told.given.1
+    awaits_nothing entry.args.self _ _ at-if1.if1.true at-if3.if3.false _ c.before.before.message.ensures c.enum_told.given.1
 
 returns-4 : tie.Need-returns-4
-returns-4 c = awaits-other c.before.before.before.before.args.self _ _ c.before.before.if1.true (sym c.before.is_control.ensures ∙ c.if2.false)
+returns-4 c = awaits_other c.before.before.before.before.args.self _ _ c.before.before.if1.true (sym c.before.is_control.ensures ∙ c.if2.false)
 
 returns-5 : tie.Need-returns-5
-returns-5 c = awaits-idle c.before.before.args.self _ _ c.if1.false
+returns-5 c = awaits_idle c.before.before.args.self _ _ c.if1.false
 
 pub awaits_spec : {M : Type 1} → statement M
 awaits_spec =

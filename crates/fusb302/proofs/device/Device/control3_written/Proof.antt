@@ -2,7 +2,7 @@
 use borrow.Author.Rules.{rules}
 use mathlib.Core.Path.{sym, ◌∙◌}
 use Rattle.machine.proofs.Staying.{reset_whole}
-use Rattle.fusb302.proofs.Writing.{control3-sends, control3-rests}
+use Rattle.fusb302.proofs.Writing.{control3_sends, control3_rests}
 use Rattle.fusb302.proofs.device.Device.control3_written.Statement.{statement}
 use Rattle.fusb302.proofs.device.Device.control3_written.Tie as tie
 
@@ -41,13 +41,13 @@ returns c =
     let at_has = at-if1.before in
     let entry = at_has.before.before in
     rw c.done.ensures
-    (control3-sends entry.args.self _ _ (sym at_has.has.ensures ∙ at-if1.if1.true) at-over.over.result c.before.before.hides-fails.result c.before.raises-a.result at-over.over.ensures c.before.before.hides-fails.ensures c.before.raises-a.ensures _ _ at-put.put.ensures)
+    (control3_sends entry.args.self _ _ (sym at_has.has.ensures ∙ at-if1.if1.true) at-over.over.result c.before.before.hides-fails.result c.before.raises-a.result at-over.over.ensures c.before.before.hides-fails.ensures c.before.raises-a.ensures _ _ at-put.put.ensures)
 
 done-requires-2 : tie.Need-done-requires-2
 done-requires-2 c κs = search rules
 
 returns-2 : tie.Need-returns-2
-returns-2 c = rw c.done2.ensures (control3-rests c.before.before.before.before.args.self _ _ (sym c.before.before.has.ensures ∙ c.before.if1.false) c.before.before.before.before.requires.0)
+returns-2 c = rw c.done2.ensures (control3_rests c.before.before.before.before.args.self _ _ (sym c.before.before.has.ensures ∙ c.before.if1.false) c.before.before.before.before.requires.0)
 
 pub control3_written_spec : {M : Type 1} → statement M
 control3_written_spec =

@@ -1,7 +1,7 @@
 -- It is sent again while retries are left; else the Soft_Reset failed, or the message.
 use borrow.Author.Rules.{rules}
 use Rattle.machine.specs.Requests.{fails}
-use Rattle.fusb302.proofs.Waiting.{phase_reset, phase_message, expires-again, expires-last}
+use Rattle.fusb302.proofs.Waiting.{phase_reset, phase_message, expires_again, expires_last}
 use Rattle.fusb302.proofs.device.Device.expire.Statement.{statement}
 use Rattle.fusb302.proofs.device.Device.expire.Tie as tie
 
@@ -30,7 +30,7 @@ returns c =
     let at-if1 = at-put-flight.before.before in
     let entry = at-if1.before.before.before.before in
     rw c.done.ensures
-    (expires-again entry.args.self _ _ entry.requires.0.arranged entry.requires.1 at-if1.if1.true at-goes-on.goes_on.result at-goes-on.goes_on.ensures c.before.requests.result c.before.requests.ensures _ _ at-put-flight.put-flight.ensures)
+    (expires_again entry.args.self _ _ entry.requires.0.arranged entry.requires.1 at-if1.if1.true at-goes-on.goes_on.result at-goes-on.goes_on.ensures c.before.requests.result c.before.requests.ensures _ _ at-put-flight.put-flight.ensures)
 
 soft-fails-requires : tie.Need-soft-fails-requires
 soft-fails-requires c κs = search rules
@@ -44,7 +44,7 @@ returns-2 c =
     let at-if2 = c.before.before.before.before in
     let at-if1 = at-if2.before.before in
     let entry = at-if1.before.before.before.before in
-    expires-last entry.args.self _ _ _ _ at-if1.if1.false _ (phase_reset _ at-if2.if2.true) c.before.before.soft-fails.ensures
+    expires_last entry.args.self _ _ _ _ at-if1.if1.false _ (phase_reset _ at-if2.if2.true) c.before.before.soft-fails.ensures
 
 message-fails-requires : tie.Need-message-fails-requires
 message-fails-requires c κs = search rules
@@ -58,7 +58,7 @@ returns-3 c =
     let at-if2 = c.before.before.before.before in
     let at-if1 = at-if2.before.before in
     let entry = at-if1.before.before.before.before in
-    expires-last entry.args.self _ _ _ _ at-if1.if1.false _ (phase_message _ at-if2.if2.false) c.before.before.message-fails.ensures
+    expires_last entry.args.self _ _ _ _ at-if1.if1.false _ (phase_message _ at-if2.if2.false) c.before.before.message-fails.ensures
 
 pub expire_spec : {M : Type 1} → statement M
 expire_spec =

@@ -1,6 +1,6 @@
 -- The packet is in Rx behind its token, and I_ALERT is set if that made it full.
 use borrow.Author.Rules.{rules}
-use Rattle.fusb302.proofs.Hearing.{room_count, keeps_on, keeps-full}
+use Rattle.fusb302.proofs.Hearing.{room_count, keeps_on, keeps_full}
 use Rattle.fusb302.proofs.device.Device.keep.Statement.{statement}
 use Rattle.fusb302.proofs.device.Device.keep.Tie as tie
 
@@ -18,7 +18,7 @@ returns c =
     let at_store = c.before.before.before.before in
     let at-rx-token = at_store.before in
     let entry = at-rx-token.before.before.before in
-    keeps-full entry.args.self entry.requires.0 _ entry.requires.1 _ _ at-rx-token.rx-token.ensures at_store.store.result at_store.store.ensures c.before.if1.true c.raises.result c.raises.ensures
+    keeps_full entry.args.self entry.requires.0 _ entry.requires.1 _ _ at-rx-token.rx-token.ensures at_store.store.result at_store.store.ensures c.before.if1.true c.raises.result c.raises.ensures
 
 returns-2 : tie.Need-returns-2
 returns-2 c =

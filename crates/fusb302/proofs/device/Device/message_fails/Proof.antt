@@ -1,7 +1,7 @@
 -- The bits are set; the request goes on with the Soft_Reset if that was latched, else it is over.
 use borrow.Author.Rules.{rules}
 use Rattle.fusb302.proofs.Becoming.{over_noted}
-use Rattle.fusb302.proofs.Waiting.{message-ends, message-soft}
+use Rattle.fusb302.proofs.Waiting.{message_ends, message_soft}
 use Rattle.fusb302.proofs.device.Device.message_fails.Statement.{statement}
 use Rattle.fusb302.proofs.device.Device.message_fails.Tie as tie
 
@@ -29,7 +29,7 @@ returns c =
     let at-over = at-shows.before in
     let entry = at-over.before.before in
     let h = over_noted entry.args.self at-over.over.result at-shows.shows.result at-raises-a.raises-a.result _ _ at-over.over.ensures at-shows.shows.ensures at-raises-a.raises-a.ensures in
-    message-soft entry.args.self at-raises-a.raises-a.result _ _ h at-if1.if1.true _ _ at_Follows.soft-reset-follows.ensures
+    message_soft entry.args.self at-raises-a.raises-a.result _ _ h at-if1.if1.true _ _ at_Follows.soft-reset-follows.ensures
 
 done-requires : tie.Need-done-requires
 done-requires c κs = search rules
@@ -40,7 +40,7 @@ returns-2 c =
     let at-over = at-shows.before in
     let entry = at-over.before.before in
     let h = over_noted entry.args.self at-over.over.result at-shows.shows.result c.before.before.before.raises-a.result _ _ at-over.over.ensures at-shows.shows.ensures c.before.before.before.raises-a.ensures in
-    rw c.done.ensures (message-ends entry.args.self c.before.before.before.raises-a.result _ _ h c.before.if1.false)
+    rw c.done.ensures (message_ends entry.args.self c.before.before.before.raises-a.result _ _ h c.before.if1.false)
 
 pub message_fails_spec : {M : Type 1} → statement M
 message_fails_spec =

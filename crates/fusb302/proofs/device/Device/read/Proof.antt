@@ -1,7 +1,7 @@
 -- Each way out is one of the answers to what stands at the address.
 use borrow.Author.Rules.{rules}
 use native.Mathlib.Omega.{arith}
-use Rattle.fusb302.proofs.Answering.{is_id, is_stored_lem, is_shown, is_port, is_nowhere, read_small, read-nowhere, read-id, read-stored, read-shown}
+use Rattle.fusb302.proofs.Answering.{is_id, is_stored_lem, is_shown, is_port, is_nowhere, read_small, read_nowhere, read_id, read_stored, read_shown}
 use Rattle.fusb302.proofs.device.Device.read.Statement.{statement}
 use Rattle.fusb302.proofs.device.Device.read.Tie as tie
 
@@ -69,14 +69,14 @@ returns-2 : tie.Need-returns-2
 returns-2 c =
     let at-if1 = c.before.before.before.before in
     let entry = at-if1.before.before in
-    rw c.give.ensures (read-id _ entry.requires _ at-if1.if1.false _ (omega arith) (is_id _ _ c.before.before.before.place_of.ensures c.before.enum_told.given.1))
+    rw c.give.ensures (read_id _ entry.requires _ at-if1.if1.false _ (omega arith) (is_id _ _ c.before.before.before.place_of.ensures c.before.enum_told.given.1))
 
 returns-3 : tie.Need-returns-3
 returns-3 c =
     let at-place-of = c.before.before.before.before in
     let at-if1 = at-place-of.before in
     let entry = at-if1.before.before in
-    rw c.give2.ensures (read-stored _ entry.requires _ at-if1.if1.false _ (omega arith) (is_stored_lem _ _ at-place-of.place_of.ensures c.before.before.enum-told2.given.1))
+    rw c.give2.ensures (read_stored _ entry.requires _ at-if1.if1.false _ (omega arith) (is_stored_lem _ _ at-place-of.place_of.ensures c.before.before.enum-told2.given.1))
 
 returns-4 : tie.Need-returns-4
 returns-4 c =
@@ -85,7 +85,7 @@ returns-4 c =
     let at-if1 = at-place-of.before in
     let entry = at-if1.before.before in
     rw c.give3.ensures
-    (read-shown _ entry.requires _ at-if1.if1.false _ (omega arith) (is_shown _ _ at-place-of.place_of.ensures at-enum-told3.enum-told3.given.1) _ _ c.before.before.before.shown.ensures c.before.cleared.ensures)
+    (read_shown _ entry.requires _ at-if1.if1.false _ (omega arith) (is_shown _ _ at-place-of.place_of.ensures at-enum-told3.enum-told3.given.1) _ _ c.before.before.before.shown.ensures c.before.cleared.ensures)
 
 returns-5 : tie.Need-returns-5
 returns-5 c = rw (is_port _ _ c.before.before.before.place_of.ensures c.before.enum-told4.given.1) (c.read-port.ensures.serves _ c.before.before.before.before.if1.false)
@@ -94,7 +94,7 @@ returns-6 : tie.Need-returns-6
 returns-6 c =
     let at-if1 = c.before.before.before.before in
     let entry = at-if1.before.before in
-    rw c.refuse2.ensures (read-nowhere _ entry.requires _ _ at-if1.if1.false (is_nowhere _ _ c.before.before.before.place_of.ensures c.before.enum-told5.given.1))
+    rw c.refuse2.ensures (read_nowhere _ entry.requires _ _ at-if1.if1.false (is_nowhere _ _ c.before.before.before.place_of.ensures c.before.enum-told5.given.1))
 
 pub read_spec : {M : Type 1} → statement M
 read_spec =

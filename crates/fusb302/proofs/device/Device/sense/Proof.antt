@@ -1,7 +1,7 @@
 -- The voltages are other ones, and what that changes is reported.
 use borrow.Author.Rules.{rules}
 use native.Mathlib.Omega.{arith}
-use Rattle.fusb302.proofs.Sensing.{sense-small, sense-taken}
+use Rattle.fusb302.proofs.Sensing.{sense_small, sense_taken}
 use Rattle.fusb302.proofs.device.Device.sense.Statement.{statement}
 use Rattle.fusb302.proofs.device.Device.sense.Tie as tie
 
@@ -9,7 +9,7 @@ refuse-requires : tie.Need-refuse-requires
 refuse-requires c κs = search rules
 
 returns : tie.Need-returns
-returns c = rw c.refuse.ensures (sense-small _ c.before.before.before.requires _ _ _ _ c.before.if1.true)
+returns c = rw c.refuse.ensures (sense_small _ c.before.before.before.requires _ _ _ _ c.before.if1.true)
 
 readings-requires : tie.Need-readings-requires
 readings-requires c κs = search rules
@@ -27,7 +27,7 @@ returns-2 c =
     let at-if1 = at-readings.before in
     let entry = at-if1.before.before in
     rw c.done.ensures
-    (sense-taken entry.args.self entry.requires _ at-if1.if1.false entry.args.cc1 entry.args.cc2 entry.args.vbus (omega (arith, entry.well-formed.1.0)) (omega (arith, entry.well-formed.1.1.0)) (omega (arith, entry.well-formed.1.1.1.0)) _ at-readings.readings.ensures.0 at-reports.reports.result at-reports.reports.ensures)
+    (sense_taken entry.args.self entry.requires _ at-if1.if1.false entry.args.cc1 entry.args.cc2 entry.args.vbus (omega (arith, entry.well-formed.1.0)) (omega (arith, entry.well-formed.1.1.0)) (omega (arith, entry.well-formed.1.1.1.0)) _ at-readings.readings.ensures.0 at-reports.reports.result at-reports.reports.ensures)
 
 pub sense_spec : {M : Type 1} → statement M
 sense_spec =

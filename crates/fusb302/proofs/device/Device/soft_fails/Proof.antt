@@ -2,7 +2,7 @@
 use borrow.Author.Rules.{rules}
 use Rattle.machine.proofs.Staying.{reset_whole}
 use Rattle.fusb302.proofs.Becoming.{over_noted}
-use Rattle.fusb302.proofs.Waiting.{soft-ends, soft-hard}
+use Rattle.fusb302.proofs.Waiting.{soft_ends, soft_hard}
 use Rattle.fusb302.proofs.device.Device.soft_fails.Statement.{statement}
 use Rattle.fusb302.proofs.device.Device.soft_fails.Tie as tie
 
@@ -42,7 +42,7 @@ returns c =
     let at-over = at-shows.before in
     let entry = at-over.before.before in
     let h = over_noted entry.args.self at-over.over.result at-shows.shows.result at-raises-a.raises-a.result _ _ at-over.over.ensures at-shows.shows.ensures at-raises-a.raises-a.ensures in
-    rw c.done.ensures (soft-hard entry.args.self at-raises-a.raises-a.result _ h at-if1.if1.true c.before.raises-a2.result c.before.raises-a2.ensures _ _ at-put.put.ensures)
+    rw c.done.ensures (soft_hard entry.args.self at-raises-a.raises-a.result _ h at-if1.if1.true c.before.raises-a2.result c.before.raises-a2.ensures _ _ at-put.put.ensures)
 
 done-requires-2 : tie.Need-done-requires-2
 done-requires-2 c κs = search rules
@@ -52,7 +52,7 @@ returns-2 c =
     let at-over = c.before.before.before.before in
     let entry = at-over.before.before in
     let h = over_noted entry.args.self at-over.over.result c.before.before.before.shows.result c.before.before.raises-a.result _ _ at-over.over.ensures c.before.before.before.shows.ensures c.before.before.raises-a.ensures in
-    rw c.done2.ensures (soft-ends entry.args.self c.before.before.raises-a.result _ h c.before.if1.false)
+    rw c.done2.ensures (soft_ends entry.args.self c.before.before.raises-a.result _ h c.before.if1.false)
 
 pub soft_fails_spec : {M : Type 1} → statement M
 soft_fails_spec =

@@ -1,7 +1,7 @@
 -- The Soft_Reset is sent on the kind that the queue spelt, and the request goes on with it; of a queue that spells nothing, nothing follows.
 use borrow.Author.Rules.{rules}
 use native.Mathlib.Omega.{arith}
-use Rattle.fusb302.proofs.Sending.{spelt-kind}
+use Rattle.fusb302.proofs.Sending.{spelt_kind}
 use Rattle.fusb302.proofs.Waiting.{follows_nothing, follows_on}
 use Rattle.fusb302.proofs.device.Device.soft_reset_follows.Statement.{statement}
 use Rattle.fusb302.proofs.device.Device.soft_reset_follows.Tie as tie
@@ -14,10 +14,10 @@ enum-known-kind c = search rules
 
 put-control-requires : tie.Need-put-control-requires
 put-control-requires c κs =
-    let at-kind = c.before.before in
-    let at-message = at-kind.before.before in
+    let at_kind = c.before.before in
+    let at-message = at_kind.before.before in
     let entry = at-message.before.before in
-    let sop = spelt-kind entry.args.tx _ at-message.message.ensures _ _ at-kind.kind.given.1 in
+    let sop = spelt_kind entry.args.tx _ at-message.message.ensures _ _ at_kind.kind.given.1 in
     (omega arith, omega (arith, sop), omega arith, entry.requires.3)
 
 goes-on-requires : tie.Need-goes-on-requires
@@ -42,11 +42,11 @@ returns : tie.Need-returns
 returns c =
     let at-goes-on = c.before.before in
     let at-put-control = at-goes-on.before.before.before in
-    let at-kind = at-put-control.before.before.before in
-    let at-message = at-kind.before.before in
+    let at_kind = at-put-control.before.before.before in
+    let at-message = at_kind.before.before in
     let entry = at-message.before.before in
     rw c.done.ensures
-    (follows_on entry.args.self entry.requires.0 entry.args.tx entry.args.request _ _ _ at-message.message.ensures _ _ at-kind.kind.given.1 entry.requires.2 at-goes-on.goes_on.result at-goes-on.goes_on.ensures c.before.requests.result c.before.requests.ensures _ _ at-put-control.put-control.ensures)
+    (follows_on entry.args.self entry.requires.0 entry.args.tx entry.args.request _ _ _ at-message.message.ensures _ _ at_kind.kind.given.1 entry.requires.2 at-goes-on.goes_on.result at-goes-on.goes_on.ensures c.before.requests.result c.before.requests.ensures _ _ at-put-control.put-control.ensures)
 
 returns-2 : tie.Need-returns-2
 returns-2 c =

@@ -1,6 +1,6 @@
 -- The sum of the bits.
 use borrow.Author.Rules.{rules}
-use Rattle.fusb302.proofs.Showing.{status0-is}
+use Rattle.fusb302.proofs.Showing.{status0_is}
 use Rattle.fusb302.proofs.device.Device.status0.Statement.{statement}
 use Rattle.fusb302.proofs.device.Device.status0.Tie as tie
 
@@ -43,7 +43,7 @@ returns c =
     let at-readings = at_flag.before in
     let at-full = at-readings.before in
     let entry = at-full.before in
-    status0-is entry.args.self entry.requires _ _ _ _ at-readings.readings.result _ at-readings.readings.ensures.0 at_flag.flag.ensures.0 at-flag2.flag2.ensures.0 at-flag3.flag3.ensures.0 at-full.either-full.ensures at-flag4.flag4.ensures.0
+    status0_is entry.args.self entry.requires _ _ _ _ at-readings.readings.result _ at-readings.readings.ensures.0 at_flag.flag.ensures.0 at-flag2.flag2.ensures.0 at-flag3.flag3.ensures.0 at-full.either-full.ensures at-flag4.flag4.ensures.0
 
 pub status0_spec : {M : Type 1} → statement M
 status0_spec =

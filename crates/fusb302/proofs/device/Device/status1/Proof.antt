@@ -1,6 +1,6 @@
 -- The sum of the bits.
 use borrow.Author.Rules.{rules}
-use Rattle.fusb302.proofs.Showing.{status1-is}
+use Rattle.fusb302.proofs.Showing.{status1_is}
 use Rattle.fusb302.proofs.device.Device.status1.Statement.{statement}
 use Rattle.fusb302.proofs.device.Device.status1.Tie as tie
 
@@ -35,7 +35,7 @@ returns : tie.Need-returns
 returns c =
     let at-rx-kind = c.before.before.before.before in
     let entry = at-rx-kind.before in
-    status1-is entry.args.self entry.requires _ _ _ _ _ at-rx-kind.rx-kind.ensures.0 c.before.before.before.flag.ensures.0 c.before.before.flag2.ensures.0 c.before.flag3.ensures.0 c.flag4.ensures.0
+    status1_is entry.args.self entry.requires _ _ _ _ _ at-rx-kind.rx-kind.ensures.0 c.before.before.before.flag.ensures.0 c.before.before.flag2.ensures.0 c.before.flag3.ensures.0 c.flag4.ensures.0
 
 pub status1_spec : {M : Type 1} → statement M
 status1_spec =

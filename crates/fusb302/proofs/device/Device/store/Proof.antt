@@ -1,7 +1,7 @@
 -- The packet is kept; a GoodCRC leaves if one is due.
 use borrow.Author.Rules.{rules}
 use mathlib.Core.Path.{sym, ◌∙◌}
-use Rattle.fusb302.proofs.Hearing.{stores-only, stores-replies}
+use Rattle.fusb302.proofs.Hearing.{stores_only, stores_replies}
 use Rattle.fusb302.proofs.device.Device.store.Statement.{statement}
 use Rattle.fusb302.proofs.device.Device.store.Tie as tie
 
@@ -37,7 +37,7 @@ returns c =
     let at-keep = at-if1.before in
     let at-replies-to = at-keep.before in
     let entry = at-replies-to.before.before.before in
-    rw c.done.ensures (stores-replies entry.args.t1 _ _ at-keep.keep.result at-keep.keep.ensures _ (sym at-replies-to.replies-to.ensures ∙ at-if1.if1.true) c.before.raises-b.result c.before.raises-b.ensures _ _ (rw at-message-id.message-id.ensures.0 at at-put-control.put-control.ensures))
+    rw c.done.ensures (stores_replies entry.args.t1 _ _ at-keep.keep.result at-keep.keep.ensures _ (sym at-replies-to.replies-to.ensures ∙ at-if1.if1.true) c.before.raises-b.result c.before.raises-b.ensures _ _ (rw at-message-id.message-id.ensures.0 at at-put-control.put-control.ensures))
 
 done-requires-2 : tie.Need-done-requires-2
 done-requires-2 c κs = search rules
@@ -46,7 +46,7 @@ returns-2 : tie.Need-returns-2
 returns-2 c =
     let at-replies-to = c.before.before.before in
     let entry = at-replies-to.before.before.before in
-    rw c.done2.ensures (stores-only entry.args.t1 _ _ c.before.before.keep.result c.before.before.keep.ensures _ (sym at-replies-to.replies-to.ensures ∙ c.before.if1.false))
+    rw c.done2.ensures (stores_only entry.args.t1 _ _ c.before.before.keep.result c.before.before.keep.ensures _ (sym at-replies-to.replies-to.ensures ∙ c.before.if1.false))
 
 pub store_spec : {M : Type 1} → statement M
 store_spec =

@@ -2,7 +2,7 @@
 use borrow.Author.Rules.{rules}
 use mathlib.Core.Bool.{not}
 use mathlib.Core.Path.{sym, ap, ◌∙◌}
-use Rattle.fusb302.proofs.Explaining.{is-off, is-full, is-room, is-unset, is_set, is-undriven, at-kind, at-crc, at_room, at-good-crc, at-auto-crc, at-auto-pre, at-driver, at_none}
+use Rattle.fusb302.proofs.Explaining.{is_off, is_full, is_room, is_unset, is_set, is_undriven, at_kind, at_crc, at_room, at_good_crc, at_auto_crc, at_auto_pre, at_driver, at_none}
 use Rattle.fusb302.proofs.device.Device.why_heard.Statement.{statement}
 use Rattle.fusb302.proofs.device.Device.why_heard.Tie as tie
 
@@ -16,7 +16,7 @@ returns : tie.Need-returns
 returns c =
     let asked = c.before in
     let begun = asked.before.before.before in
-    at-kind _ _ _ (is-off begun.args.self _ _ _ asked.kind-on.ensures c.if1.true)
+    at_kind _ _ _ (is_off begun.args.self _ _ _ asked.kind-on.ensures c.if1.true)
 
 right-requires : tie.Need-right-requires
 right-requires c κs = search rules
@@ -27,7 +27,7 @@ returns-2 c =
     let heard = checked.before in
     let asked = heard.before in
     let begun = asked.before.before.before in
-    at-crc _ _ _ (is-off begun.args.self _ _ _ asked.kind-on.ensures heard.if1.false) (ap not (sym checked.right.ensures) ∙ c.if2.true)
+    at_crc _ _ _ (is_off begun.args.self _ _ _ asked.kind-on.ensures heard.if1.false) (ap not (sym checked.right.ensures) ∙ c.if2.true)
 
 add-if3 : tie.Need-overflow-add-if3
 add-if3 c = search rules
@@ -43,9 +43,9 @@ returns-3 c =
     let asked = on.before in
     let begun = asked.before.before.before in
     at_room _ _ _
-    (is-off begun.args.self _ _ _ asked.kind-on.ensures on.if1.false)
+    (is_off begun.args.self _ _ _ asked.kind-on.ensures on.if1.false)
     (ap not (sym checked.right.ensures) ∙ right.if2.false)
-    (is-full begun.args.self begun.args.packet.now begun.requires.0 c.if3.true)
+    (is_full begun.args.self begun.args.packet.now begun.requires.0 c.if3.true)
 
 is-control-requires : tie.Need-is-control-requires
 is-control-requires c κs = search rules
@@ -59,10 +59,10 @@ returns-4 c =
     let on = checked.before in
     let asked = on.before in
     let begun = asked.before.before.before in
-    at-good-crc _ _ _
-    (is-off begun.args.self _ _ _ asked.kind-on.ensures on.if1.false)
+    at_good_crc _ _ _
+    (is_off begun.args.self _ _ _ asked.kind-on.ensures on.if1.false)
     (ap not (sym checked.right.ensures) ∙ right.if2.false)
-    (is-room begun.args.self begun.args.packet.now begun.requires.0 room.if3.false)
+    (is_room begun.args.self begun.args.packet.now begun.requires.0 room.if3.false)
     (sym compared.is_control.ensures ∙ c.if4.true)
 
 array-read-has : tie.Need-array-read-has
@@ -82,12 +82,12 @@ returns-5 c =
     let on = checked.before in
     let asked = on.before in
     let begun = asked.before.before.before in
-    at-auto-crc _ _ _
-    (is-off begun.args.self _ _ _ asked.kind-on.ensures on.if1.false)
+    at_auto_crc _ _ _
+    (is_off begun.args.self _ _ _ asked.kind-on.ensures on.if1.false)
     (ap not (sym checked.right.ensures) ∙ right.if2.false)
-    (is-room begun.args.self begun.args.packet.now begun.requires.0 room.if3.false)
+    (is_room begun.args.self begun.args.packet.now begun.requires.0 room.if3.false)
     (sym compared.is_control.ensures ∙ other.if4.false)
-    (is-unset begun.args.self _ _ switched.has.ensures c.if5.true)
+    (is_unset begun.args.self _ _ switched.has.ensures c.if5.true)
 
 array-read-has-2 : tie.Need-array-read-has-2
 array-read-has-2 c = search rules
@@ -108,12 +108,12 @@ returns-6 c =
     let on = checked.before in
     let asked = on.before in
     let begun = asked.before.before.before in
-    at-auto-pre _ _ _
-    (is-off begun.args.self _ _ _ asked.kind-on.ensures on.if1.false)
+    at_auto_pre _ _ _
+    (is_off begun.args.self _ _ _ asked.kind-on.ensures on.if1.false)
     (ap not (sym checked.right.ensures) ∙ right.if2.false)
-    (is-room begun.args.self begun.args.packet.now begun.requires.0 room.if3.false)
+    (is_room begun.args.self begun.args.packet.now begun.requires.0 room.if3.false)
     (sym compared.is_control.ensures ∙ other.if4.false)
-    (is-unset begun.args.self _ _ switched.has.ensures auto.if5.false)
+    (is_unset begun.args.self _ _ switched.has.ensures auto.if5.false)
     (is_set begun.args.self _ _ armed.has2.ensures c.if6.true)
 
 array-read-driver-on : tie.Need-array-read-driver-on
@@ -137,14 +137,14 @@ returns-7 c =
     let on = checked.before in
     let asked = on.before in
     let begun = asked.before.before.before in
-    at-driver _ _ _
-    (is-off begun.args.self _ _ _ asked.kind-on.ensures on.if1.false)
+    at_driver _ _ _
+    (is_off begun.args.self _ _ _ asked.kind-on.ensures on.if1.false)
     (ap not (sym checked.right.ensures) ∙ right.if2.false)
-    (is-room begun.args.self begun.args.packet.now begun.requires.0 room.if3.false)
+    (is_room begun.args.self begun.args.packet.now begun.requires.0 room.if3.false)
     (sym compared.is_control.ensures ∙ other.if4.false)
-    (is-unset begun.args.self _ _ switched.has.ensures auto.if5.false)
+    (is_unset begun.args.self _ _ switched.has.ensures auto.if5.false)
     (is_set begun.args.self _ _ armed.has2.ensures pre.if6.false)
-    (is-undriven begun.args.self _ _ driven.driver-on.ensures c.if7.true)
+    (is_undriven begun.args.self _ _ driven.driver-on.ensures c.if7.true)
 
 returns-8 : tie.Need-returns-8
 returns-8 c =
@@ -162,13 +162,13 @@ returns-8 c =
     let asked = on.before in
     let begun = asked.before.before.before in
     at_none _ _ _
-    (is-off begun.args.self _ _ _ asked.kind-on.ensures on.if1.false)
+    (is_off begun.args.self _ _ _ asked.kind-on.ensures on.if1.false)
     (ap not (sym checked.right.ensures) ∙ right.if2.false)
-    (is-room begun.args.self begun.args.packet.now begun.requires.0 room.if3.false)
+    (is_room begun.args.self begun.args.packet.now begun.requires.0 room.if3.false)
     (sym compared.is_control.ensures ∙ other.if4.false)
-    (is-unset begun.args.self _ _ switched.has.ensures auto.if5.false)
+    (is_unset begun.args.self _ _ switched.has.ensures auto.if5.false)
     (is_set begun.args.self _ _ armed.has2.ensures pre.if6.false)
-    (is-undriven begun.args.self _ _ driven.driver-on.ensures c.if7.false)
+    (is_undriven begun.args.self _ _ driven.driver-on.ensures c.if7.false)
 
 pub why_heard_spec : {M : Type 1} → statement M
 why_heard_spec =

@@ -5,7 +5,7 @@ use native.Mathlib.Omega.{arith}
 use borrow.Author.Rules.{rules}
 use lib.ListN.{length, drop, length-set}
 use lib.Seq.{sets}
-use Rattle.fusb302.proofs.Storing.{store-more, store-all, rest, rest-length, from_next, above, all-but-first}
+use Rattle.fusb302.proofs.Storing.{store_more, store_all, rest, rest_length, from_next, above, all_but_first}
 use Rattle.fusb302.proofs.fifo.Fifo.rest.Statement.{statement}
 use Rattle.fusb302.proofs.fifo.Fifo.rest.Tie as tie
 
@@ -52,7 +52,7 @@ loop-again c =
       omega arith,
       simp length-set (omega arith),
       above l n m S i same _,
-      store-more S _ (rest l n) i i (omega (arith, rest-length l n m)) c.before.before.loop.invariant.3 _ _ (from_next l n m S i same (omega arith)) refl,
+      store_more S _ (rest l n) i i (omega (arith, rest_length l n m)) c.before.before.loop.invariant.3 _ _ (from_next l n m S i same (omega arith)) refl,
     )
 
 returns : tie.Need-returns invariant-loop decreases-loop
@@ -63,7 +63,7 @@ returns c =
     let n = f.len in
     let m : n ≤ length l = omega arith in (
       record { size = inv.1 ∙ c.before.before.requires.0.size; room = omega arith },
-      all-but-first l n m _ (store-all _ _ (rest l n) _ c.before.loop.i (omega (arith, rest-length l n m)) inv.3),
+      all_but_first l n m _ (store_all _ _ (rest l n) _ c.before.loop.i (omega (arith, rest_length l n m)) inv.3),
     )
 
 pub rest_spec : {M : Type 1} → statement M

@@ -6,7 +6,7 @@ use native.Mathlib.Omega.{arith}
 use borrow.Author.Rules.{rules}
 use lib.ListN.{length, drop, length-set}
 use lib.Seq.{sets}
-use Rattle.fusb302.proofs.Storing.{store-more, store-all, behind}
+use Rattle.fusb302.proofs.Storing.{store_more, store_all, behind}
 use Rattle.fusb302.proofs.fifo.Fifo.store.Statement.{statement}
 use Rattle.fusb302.proofs.fifo.Fifo.store.Tie as tie
 
@@ -47,7 +47,7 @@ loop-again : tie.Need-loop-preserved invariant-loop decreases-loop
 loop-again c = (
   omega arith,
   simp length-set (simp length-set at c.before.before.loop.invariant.1),
-  store-more _ _ _ _ _ c.before.loop-test.true c.before.before.loop.invariant.2 _ _ refl (omega arith),
+  store_more _ _ _ _ _ c.before.loop-test.true c.before.before.loop.invariant.2 _ _ refl (omega arith),
 )
 
 add-self-3 : tie.Need-overflow-add-self-3 invariant-loop decreases-loop
@@ -63,7 +63,7 @@ returns c =
     let p = c.before.before.args.packet.now in
     let s : length c.before.loop.self.octets ≡ 80 = (simp length-set at inv.1) ∙ c.before.before.requires.0.size in (
       record { size = s; room = omega arith },
-      behind f.octets p c.before.before.args.token f.len (omega arith) _ (store-all _ _ _ _ _ c.loop-test.false inv.2),
+      behind f.octets p c.before.before.args.token f.len (omega arith) _ (store_all _ _ _ _ _ c.loop-test.false inv.2),
     )
 
 pub store_spec : {M : Type 1} → statement M

@@ -3,7 +3,7 @@ use borrow.Author.Rules.{rules}
 use mathlib.Core.Path.{sym, ap, ◌∙◌}
 use native.Mathlib.Omega.{arith}
 use Rattle.fusb302.specs.Queued.{sop_kind}
-use Rattle.fusb302.proofs.Queueing.{spelt-uncounted, spelt-misfit, spelt-unset, spelt-no-crc, spelt-no-eop, spelt-no-off, spelt_whole}
+use Rattle.fusb302.proofs.Queueing.{spelt_uncounted, spelt_misfit, spelt_unset, spelt_no_crc, spelt_no_eop, spelt_no_off, spelt_whole}
 use Rattle.fusb302.proofs.queue.Queue.message.Statement.{statement}
 use Rattle.fusb302.proofs.queue.Queue.message.Tie as tie
 
@@ -19,7 +19,7 @@ cast-count c = search rules
 returns : tie.Need-returns
 returns c =
     let q = c.before.before.before.args.self in
-    spelt-uncounted q.octets q.len (sym c.before.announced.ensures ∙ c.if1.true)
+    spelt_uncounted q.octets q.len (sym c.before.announced.ensures ∙ c.if1.true)
 
 add-if2 : tie.Need-overflow-add-if2
 add-if2 c = search rules
@@ -27,7 +27,7 @@ add-if2 c = search rules
 returns-2 : tie.Need-returns-2
 returns-2 c =
     let q = c.before.before.before.before.args.self in
-    spelt-misfit q.octets q.len (omega arith) (λ e. c.if2.true (omega (arith, e, c.before.before.announced.ensures)))
+    spelt_misfit q.octets q.len (omega arith) (λ e. c.if2.true (omega (arith, e, c.before.before.announced.ensures)))
 
 slice-aggregate-kind-of : tie.Need-slice-aggregate-kind-of
 slice-aggregate-kind-of c = search rules
@@ -40,7 +40,7 @@ returns-3 c =
     let f = c.before.before.before in
     let a = f.before.before.announced in
     let q = f.before.before.before.before.args.self in
-    spelt-unset q.octets q.len a.result a.ensures f.if2.false (omega arith) (sym (ap sop_kind c.if3.true) ∙ c.before.kind_of_lem.ensures.0)
+    spelt_unset q.octets q.len a.result a.ensures f.if2.false (omega arith) (sym (ap sop_kind c.if3.true) ∙ c.before.kind_of_lem.ensures.0)
 
 add-if4 : tie.Need-overflow-add-if4
 add-if4 c = search rules
@@ -53,7 +53,7 @@ returns-4 c =
     let f = c.before.before.before.before in
     let a = f.before.before.announced in
     let q = f.before.before.before.before.args.self in
-    spelt-no-crc q.octets q.len a.result a.ensures f.if2.false (omega arith) c.if4.true
+    spelt_no_crc q.octets q.len a.result a.ensures f.if2.false (omega arith) c.if4.true
 
 add-if5 : tie.Need-overflow-add-if5
 add-if5 c = search rules
@@ -67,7 +67,7 @@ returns-5 c =
     let f = at-if4.before.before.before.before in
     let a = f.before.before.announced in
     let q = f.before.before.before.before.args.self in
-    spelt-no-eop q.octets q.len a.result a.ensures f.if2.false (omega arith) c.if5.true
+    spelt_no_eop q.octets q.len a.result a.ensures f.if2.false (omega arith) c.if5.true
 
 add-if6 : tie.Need-overflow-add-if6
 add-if6 c = search rules
@@ -81,7 +81,7 @@ returns-6 c =
     let f = at-if4.before.before.before.before in
     let a = f.before.before.announced in
     let q = f.before.before.before.before.args.self in
-    spelt-no-off q.octets q.len a.result a.ensures f.if2.false (omega arith) c.if6.true
+    spelt_no_off q.octets q.len a.result a.ensures f.if2.false (omega arith) c.if6.true
 
 returns-7 : tie.Need-returns-7
 returns-7 c =

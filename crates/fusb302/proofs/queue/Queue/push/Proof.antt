@@ -4,7 +4,7 @@ use mathlib.Core.Path.{sym, ap, ◌∙◌}
 use native.Mathlib.Omega.{arith}
 use Rattle.machine.specs.Queue.{to_come}
 use Rattle.fusb302.specs.Queued.{queued}
-use Rattle.fusb302.proofs.Queueing.{pushed, left-token, left-data}
+use Rattle.fusb302.proofs.Queueing.{pushed, left_token, left_data}
 use Rattle.fusb302.proofs.queue.Queue.push.Statement.{statement}
 use Rattle.fusb302.proofs.queue.Queue.push.Tie as tie
 
@@ -29,7 +29,7 @@ returns c =
       record {
         size = search rules;
         room = search rules;
-        left = c.announced.ensures ∙ sym (ap (to_come 0) is ∙ left-token (queued q) b (sym k.left ∙ c.before.if1.true));
+        left = c.announced.ensures ∙ sym (ap (to_come 0) is ∙ left_token (queued q) b (sym k.left ∙ c.before.if1.true));
       },
       is,
     )
@@ -43,7 +43,7 @@ returns-2 c =
       record {
         size = search rules;
         room = search rules;
-        left = rw k.left (sym (ap (to_come 0) is ∙ left-data (queued q) b (λ e. c.if1.false (k.left ∙ e))));
+        left = rw k.left (sym (ap (to_come 0) is ∙ left_data (queued q) b (λ e. c.if1.false (k.left ∙ e))));
       },
       is,
     )
