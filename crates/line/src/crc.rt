@@ -24,9 +24,8 @@ fn octet(c: u32, b: u8) -> u32
     x
 }
 
-// The CRC of some octets. Exported, so that C and Rust programs can call it too.
-#[unsafe(no_mangle)]
-pub extern "C" fn crc(octets: &[u8]) -> u32
+// The CRC of some octets; `line_c` exports it, so that C programs can call it too.
+pub fn crc(octets: &[u8]) -> u32
     ensures { IsCrc octets.now result }
 {
     let mut c = 0xFFFF_FFFF;
