@@ -12,7 +12,7 @@ use lib.Dec.{ltb, eqb}
 use lib.ListN.{get_or}
 use Rattle.line.specs.Frame.{Frame}
 use Rattle.line.specs.Refusal.{first_no}
-use Rattle.machine.specs.Registers.{stored_bits, cell, switches1, has}
+use Rattle.machine.specs.Registers.{stored_bits, cell, has}
 use Rattle.machine.specs.State.{Phase, message, soft_reset, Request, State, with_cells, with_tx, with_request, shows, raises, raises_a}
 use Rattle.machine.specs.Status.{tx_full, RETRYFAIL, I_RETRYFAIL, I_ALERT}
 use Rattle.machine.specs.Queue.{inside, spelt}
