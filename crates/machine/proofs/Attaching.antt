@@ -79,24 +79,24 @@ few s = go (has PWR2 (reg power s))
     go false = omega arith
 
 module _ (s : State) where
-  shown-part : (m : ℕ) (of : Bool → Bool → ℕ → ℕ) → part m of 0 ≡ true → part m of 1 ≡ true → part m of 2 ≡ true → part m of 3 ≡ true
+  shown_part : (m : ℕ) (of : Bool → Bool → ℕ → ℕ) → part m of 0 ≡ true → part m of 1 ≡ true → part m of 2 ≡ true → part m of 3 ≡ true
       → bit_and (status0_of s) m ≡ of (readings s).vbus_ok (readings s).comp (readings s).bc_lvl
   unfolding status0_of
-  shown-part m of p q r t =
+  shown_part m of p q r t =
       in_part m of (readings s).bc_lvl (by_level (part m of) p q r t (readings s).bc_lvl (few s)) (readings s).vbus_ok (readings s).comp
       s.status.crc_chk (rx_full s || tx_full s)
 
-  vbusok-shown : bit_and (status0_of s) VBUSOK ≡ flag VBUSOK (readings s).vbus_ok
+  vbusok_shown : bit_and (status0_of s) VBUSOK ≡ flag VBUSOK (readings s).vbus_ok
   unfolding part every
-  vbusok-shown = shown-part VBUSOK (λ a b n. flag VBUSOK a) refl refl refl refl
+  vbusok_shown = shown_part VBUSOK (λ a b n. flag VBUSOK a) refl refl refl refl
 
-  comp-shown : bit_and (status0_of s) COMP ≡ flag COMP (readings s).comp
+  comp_shown : bit_and (status0_of s) COMP ≡ flag COMP (readings s).comp
   unfolding part every
-  comp-shown = shown-part COMP (λ a b n. flag COMP b) refl refl refl refl
+  comp_shown = shown_part COMP (λ a b n. flag COMP b) refl refl refl refl
 
-  level-shown : bc_lvl_shown s ≡ (readings s).bc_lvl
+  level_shown : bc_lvl_shown s ≡ (readings s).bc_lvl
   unfolding part every
-  level-shown = shown-part BC_LVL (λ a b n. n) refl refl refl refl
+  level_shown = shown_part BC_LVL (λ a b n. n) refl refl refl refl
 
 -- ---- 1. Thresholds
 
@@ -109,30 +109,30 @@ tested : (b : Bool) (t v : ℕ) → b ≡ leb t v → (b ≡ true) ↔ (t ≤ v)
 tested b t v e = (λ h. leb-true t v (sym e ∙ h), λ h. e ∙ le-leb t v h)
 
 module _ (s : State) where
-  has-comp : has COMP (status0_of s) ≡ (readings s).comp
+  has_comp : has COMP (status0_of s) ≡ (readings s).comp
   unfolding has
-  has-comp = ap (λ (x : ℕ). not (eqb x 0)) (comp-shown s) ∙ flagged COMP refl (readings s).comp
+  has_comp = ap (λ (x : ℕ). not (eqb x 0)) (comp_shown s) ∙ flagged COMP refl (readings s).comp
 
-  has-vbusok : has VBUSOK (status0_of s) ≡ (readings s).vbus_ok
+  has_vbusok : has VBUSOK (status0_of s) ≡ (readings s).vbus_ok
   unfolding has
-  has-vbusok = ap (λ (x : ℕ). not (eqb x 0)) (vbusok-shown s) ∙ flagged VBUSOK refl (readings s).vbus_ok
+  has_vbusok = ap (λ (x : ℕ). not (eqb x 0)) (vbusok_shown s) ∙ flagged VBUSOK refl (readings s).vbus_ok
 
   the_code : bit_and (reg measure s) MDAC ≡ code s
   the_code = and_mask (reg measure s) 6
 
   -- the pin that is measured
   module _ (v : ℕ) (m : Measuring s v) where
-    one-pin : measured (reg switches0 s) s.pins ≡ some v
+    one_pin_lem : measured (reg switches0 s) s.pins ≡ some v
     unfolding one_pin
-    one-pin = ⊎_elim (λ h. simp (h.0, h.1, h.2)) (λ h. simp (h.0, h.1, h.2)) m.pin
+    one_pin_lem = ⊎_elim (λ h. simp (h.0, h.1, h.2)) (λ h. simp (h.0, h.1, h.2)) m.pin
 
-    level-of : bc_lvl_shown s ≡ steps levels v
+    level_of : bc_lvl_shown s ≡ steps levels v
     unfolding readings bc_lvl_of
-    level-of = level-shown s ∙ simp (m.on, one-pin)
+    level_of = level_shown s ∙ simp (m.on, one_pin_lem)
 
-    comp-of : has MEAS_VBUS (reg measure s) ≡ false → has COMP (status0_of s) ≡ leb (42 * (code s + 1)) v
+    comp_of_lem : has MEAS_VBUS (reg measure s) ≡ false → has COMP (status0_of s) ≡ leb (42 * (code s + 1)) v
     unfolding readings comp_of
-    comp-of e = has-comp ∙ simp (m.on, e, one-pin, the_code, or-false)
+    comp_of_lem e = has_comp ∙ simp (m.on, e, one_pin_lem, the_code, or-false)
 
 -- no MEAS_CC, or both
 no_pin : (b : Bool) (p : Pins) → one_pin b b p ≡ none
@@ -148,16 +148,16 @@ pub shown_exactly : ShownExactly
 unfolding readings bc_lvl_of comp_of one_pin
 shown_exactly =
     record {
-      level_0 = λ s v m h. level-of s v m ∙ simp (lt-leb 200 v h, lt-leb 660 v (omega arith), lt-leb 1230 v (omega arith));
-      level_1 = λ s v m h k. level-of s v m ∙ simp (le-leb 200 v h, lt-leb 660 v k, lt-leb 1230 v (omega arith));
-      level_2 = λ s v m h k. level-of s v m ∙ simp (le-leb 200 v (omega arith), le-leb 660 v h, lt-leb 1230 v k);
-      level_3 = λ s v m h. level-of s v m ∙ simp (le-leb 200 v (omega arith), le-leb 660 v (omega arith), le-leb 1230 v h);
-      comp_cc = λ s v m e. tested _ (42 * (code s + 1)) v (comp-of s v m e);
-      comp_vbus = λ s on vbus x y. tested _ (420 * (code s + 1)) s.pins.vbus (has-comp s ∙ simp (on, vbus, x, y, the_code s));
-      vbusok = λ s. tested _ 4000 s.pins.vbus (has-vbusok s);
-      off = λ s e. (level-shown s ∙ simp e, has-comp s ∙ simp e);
-      not_one = λ s e. (level-shown s ∙ simp (e, no_pin, either), λ m. has-comp s ∙ simp (m, e, no_pin, and-false));
-      vbus_and_cc = λ s m e. has-comp s ∙ simp (m, e, and-false);
+      level_0 = λ s v m h. level_of s v m ∙ simp (lt-leb 200 v h, lt-leb 660 v (omega arith), lt-leb 1230 v (omega arith));
+      level_1 = λ s v m h k. level_of s v m ∙ simp (le-leb 200 v h, lt-leb 660 v k, lt-leb 1230 v (omega arith));
+      level_2 = λ s v m h k. level_of s v m ∙ simp (le-leb 200 v (omega arith), le-leb 660 v h, lt-leb 1230 v k);
+      level_3 = λ s v m h. level_of s v m ∙ simp (le-leb 200 v (omega arith), le-leb 660 v (omega arith), le-leb 1230 v h);
+      comp_cc = λ s v m e. tested _ (42 * (code s + 1)) v (comp_of_lem s v m e);
+      comp_vbus = λ s on vbus x y. tested _ (420 * (code s + 1)) s.pins.vbus (has_comp s ∙ simp (on, vbus, x, y, the_code s));
+      vbusok = λ s. tested _ 4000 s.pins.vbus (has_vbusok s);
+      off = λ s e. (level_shown s ∙ simp e, has_comp s ∙ simp e);
+      not_one = λ s e. (level_shown s ∙ simp (e, no_pin, either), λ m. has_comp s ∙ simp (m, e, no_pin, and-false));
+      vbus_and_cc = λ s m e. has_comp s ∙ simp (m, e, and-false);
     }
 
 -- ---- 2. Interrupts
@@ -209,9 +209,9 @@ all_reported s t h =
     → not (eqb (bit_and (status0_of s) m) (bit_and (status0_of t) m)) ≡ b → Reported i m s (reports s t) =
     λ i m b e p q. or_has i t.ints.main (changes x y) ∙ ap₂ ◌||◌ (has_part pin_interrupts i t.ints.main s.ints.main e h) (p ∙ sym q) in
     record {
-      i_vbusok = reported I_VBUSOK VBUSOK _ refl bits.0 (ap₂ (λ (a b : ℕ). not (eqb a b)) (vbusok-shown s) (vbusok-shown t) ∙ flags_differ VBUSOK refl x.vbus_ok y.vbus_ok);
-      i_comp_chng = reported I_COMP_CHNG COMP _ refl bits.1 (ap₂ (λ (a b : ℕ). not (eqb a b)) (comp-shown s) (comp-shown t) ∙ flags_differ COMP refl x.comp y.comp);
-      i_bc_lvl = reported I_BC_LVL BC_LVL _ refl bits.2 (ap₂ (λ (a b : ℕ). not (eqb a b)) (level-shown s) (level-shown t));
+      i_vbusok = reported I_VBUSOK VBUSOK _ refl bits.0 (ap₂ (λ (a b : ℕ). not (eqb a b)) (vbusok_shown s) (vbusok_shown t) ∙ flags_differ VBUSOK refl x.vbus_ok y.vbus_ok);
+      i_comp_chng = reported I_COMP_CHNG COMP _ refl bits.1 (ap₂ (λ (a b : ℕ). not (eqb a b)) (comp_shown s) (comp_shown t) ∙ flags_differ COMP refl x.comp y.comp);
+      i_bc_lvl = reported I_BC_LVL BC_LVL _ refl bits.2 (ap₂ (λ (a b : ℕ). not (eqb a b)) (level_shown s) (level_shown t));
     }
 
 -- what an event keeps that is neither a write nor one of voltages
@@ -250,7 +250,7 @@ step_stays s e o = go (refusal s e)
 -- of what is shown, the bits of 40
 pin_status_lem : (s : State) → bit_and (status0_of s) pin_status ≡ flag VBUSOK (readings s).vbus_ok + (flag COMP (readings s).comp + (readings s).bc_lvl)
 unfolding part every
-pin_status_lem s = shown-part s pin_status (λ a b n. flag VBUSOK a + (flag COMP b + n)) refl refl refl refl
+pin_status_lem s = shown_part s pin_status (λ a b n. flag VBUSOK a + (flag COMP b + n)) refl refl refl refl
 
 read_taken : (s : State) (room : ℕ) → frame_room ≤ room → refusal s (read room interrupt) ≡ none
 unfolding refusal first_no no12 no1 no2 no6 no3 no5 no4 no7 no8 no11 no9 no10 exists is_stored read_only
@@ -301,8 +301,8 @@ unfolding step result_of accepted reset_written restored status0_of readings bc_
 sw_res_keeps_voltages s room v enough h =
     let anew : (step s (write room reset v)).state ≡ with_pins s.pins power_up =
     rw (reset_taken s room v enough, reset_written_lem v s, h) refl in
-    (anew, ap status0_of anew ∙ flag-sum (leb 4000 s.pins.vbus))
+    (anew, ap status0_of anew ∙ flag_sum (leb 4000 s.pins.vbus))
   where
-    flag-sum : (b : Bool) → flag VBUSOK b + 0 ≡ cond b VBUSOK 0
-    flag-sum true = refl
-    flag-sum false = refl
+    flag_sum : (b : Bool) → flag VBUSOK b + 0 ≡ cond b VBUSOK 0
+    flag_sum true = refl
+    flag_sum false = refl

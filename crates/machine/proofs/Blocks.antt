@@ -71,13 +71,13 @@ module _ (x : ℕ) (symbol : set_symbol x < 32) where
         | no h ↦ absurd (omega (arith, no_symbol x (omega arith)))
       ]
 
-  announces-none : announced x ≡ 0
+  announces_none : announced x ≡ 0
   unfolding announced
-  announces-none = simp (lt-leb 0x82 x low)
+  announces_none = simp (lt-leb 0x82 x low)
 
-  token-stored : storable 0 x ≡ true
+  token_stored : storable 0 x ≡ true
   unfolding is_token
-  token-stored = let h = low in simp (lt-ltb (set_symbol x) 32 symbol, ne_eqb x START (omega arith))
+  token_stored = let h = low in simp (lt-ltb (set_symbol x) 32 symbol, ne_eqb x START (omega arith))
 
 symbols : List ℕ → Bool
 symbols [] = true
@@ -92,7 +92,7 @@ symbols_stored (x ∷ l) h = go (ltb (set_symbol x) 32) refl h (symbols_stored l
         → Stores 0 (x ∷ l) 0
     go true e h ih =
         let y = ltb-true (set_symbol x) 32 e in
-        one_more 0 x l 0 (token-stored x y) (rw (announces-none x y) (ih h))
+        one_more 0 x l 0 (token_stored x y) (rw (announces_none x y) (ih h))
     go false e h ih = absurd h
 
 pub set_stored : (set : List ℕ) (k : ℕ) → k < kinds → map set_symbol set ≡ set_of k → Stores 0 set 0

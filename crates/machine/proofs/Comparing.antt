@@ -16,7 +16,7 @@ use Rattle.machine.specs.Registers.{stored_bits, cell, has, stored, control0, co
 use Rattle.machine.specs.State.{Phase, message, soft_reset, Request, Pins, State, with_cells, with_ints}
 use Rattle.machine.specs.Pins.{Readings, readings}
 use Rattle.machine.specs.Status.{flag, differ, changes, reports, I_VBUSOK, I_COMP_CHNG, I_ALERT, I_CRC_CHK, I_BC_LVL}
-use Rattle.machine.specs.Requests.{Effect, silent, sends_if, start, send_hard_reset, soft_reset_follows, message_fails, soft_fails, fails, expires, elapses, passes, wait}
+use Rattle.machine.specs.Requests.{Effect, silent, sends_if, start, send_hard_reset, soft_reset_follows, message_fails, soft_fails, fails, expires, elapses, passes}
 use Rattle.machine.specs.Packets.{noted, keeps, stores, accepts, hears}
 use Rattle.machine.specs.Step.{pd_reset, queues, control0_written, control1_written, control3_written, reset_written, port_written, commands, writes, sw_reset, written}
 use Rattle.machine.specs.Good.{Within}

@@ -45,9 +45,9 @@ abbrev Exact : (Reason → Type 0) → List Cause → Type 0
 Exact says [] = Unit {0}
 Exact says (c ∷ cs) = ((c.applies ≡ true) ↔ says c.reason) × Exact says cs
 
-not-true : (b : Bool) → (b ≡ true → ⊥) → b ≡ false
-not-true true h = absurd (h refl)
-not-true false h = refl
+not_true : (b : Bool) → (b ≡ true → ⊥) → b ≡ false
+not_true true h = absurd (h refl)
+not_true false h = refl
 
 module _ (says : Reason → Type 0) where
   abbrev Means : List Cause → Option Reason → Type 0
@@ -87,13 +87,13 @@ module _ (says : Reason → Type 0) where
   first_some (c ∷ cs) x r (b ∷ before) behind e n h =
       let same : c.reason ≡ b = cc in
       let rest : reasons_of cs ≡ before ++ (r ∷ behind) = cc in
-      let off = not-true c.applies (λ a. n.0 (rw same at (x.0.0 a))) in
+      let off = not_true c.applies (λ a. n.0 (rw same at (x.0.0 a))) in
       rw off (first_some cs x.1 r before behind rest n.1 h)
 
-  first-none : (cs : List Cause) → Exact says cs → NoneTrue says (reasons_of cs) → first_cause cs ≡ none
+  first_none : (cs : List Cause) → Exact says cs → NoneTrue says (reasons_of cs) → first_cause cs ≡ none
   unfolding first_cause reasons_of
-  first-none [] x n = refl
-  first-none (c ∷ cs) x n = rw (not-true c.applies (λ a. n.0 (x.0.0 a))) (first-none cs x.1 n.1)
+  first_none [] x n = refl
+  first_none (c ∷ cs) x n = rw (not_true c.applies (λ a. n.0 (x.0.0 a))) (first_none cs x.1 n.1)
 
 -- ---- each row applies exactly when its reason is true
 
@@ -115,22 +115,22 @@ three_iff true false c p q r = (λ e. absurd (true≢false (sym e)), λ x. q.1 x
 three_iff false b c p q r = (λ e. absurd (true≢false (sym e)), λ x. p.1 x.0)
 
 -- a bit, by the mask of it alone
-module _ (n x : ℕ) (some-bit : 0 < 2 ^ n) where
-  has-bit : has (2 ^ (1 + n) - 2 ^ n) x ≡ eqb (bit n x) 1
+module _ (n x : ℕ) (some_bit : 0 < 2 ^ n) where
+  has_bit : has (2 ^ (1 + n) - 2 ^ n) x ≡ eqb (bit n x) 1
   unfolding has
-  has-bit = ap (λ (y : ℕ). not (eqb y 0)) (and_high x 1 n) ∙ go (bit n x) (2 ^ n) (mod-lt _ (lit< tt)) some-bit
+  has_bit = ap (λ (y : ℕ). not (eqb y 0)) (and_high x 1 n) ∙ go (bit n x) (2 ^ n) (mod-lt _ (lit< tt)) some_bit
     where
       go : (b p : ℕ) → b < 2 → 0 < p → not (eqb (b * p) 0) ≡ eqb b 1
       go zero p h q = rw (zero-mul p) refl
       go (suc zero) p h q = rw (ne_eqb (1 * p) 0 (λ e. omega arith)) refl
       go (suc (suc b)) p h q = absurd (omega arith)
 
-  bit-on : (has (2 ^ (1 + n) - 2 ^ n) x ≡ true) ↔ (bit n x ≡ 1)
-  bit-on = (λ e. eqb-true (bit n x) 1 (sym has-bit ∙ e), λ e. has-bit ∙ eq-eqb (bit n x) 1 e)
+  bit_on : (has (2 ^ (1 + n) - 2 ^ n) x ≡ true) ↔ (bit n x ≡ 1)
+  bit_on = (λ e. eqb-true (bit n x) 1 (sym has_bit ∙ e), λ e. has_bit ∙ eq-eqb (bit n x) 1 e)
 
-  bit-off : (not (has (2 ^ (1 + n) - 2 ^ n) x) ≡ true) ↔ (bit n x ≡ 0)
-  bit-off =
-      let off = not_iff (has (2 ^ (1 + n) - 2 ^ n) x) bit-on in
+  bit_off : (not (has (2 ^ (1 + n) - 2 ^ n) x) ≡ true) ↔ (bit n x ≡ 0)
+  bit_off =
+      let off = not_iff (has (2 ^ (1 + n) - 2 ^ n) x) bit_on in
       let small : bit n x < 2 = mod-lt _ (lit< tt) in
       (λ e. one_less (bit n x) small (off.0 e), λ e. off.1 (λ o. omega arith))
     where
@@ -161,10 +161,10 @@ enabling c k n lo hi at b is =
 enabled_iff : (c k : ℕ) → (cond (eqb k 0) true (has (enables k) c) ≡ true) ↔ Enabled c k
 unfolding has
 enabled_iff c zero = (λ e. inl refl, λ e. refl)
-enabled_iff c (suc zero) = enabling c 1 0 (omega arith) (omega arith) refl _ (bit-on 0 c (lit< tt))
-enabled_iff c (suc (suc zero)) = enabling c 2 1 (omega arith) (omega arith) refl _ (bit-on 1 c (lit< tt))
-enabled_iff c (suc (suc (suc zero))) = enabling c 3 5 (omega arith) (omega arith) refl _ (bit-on 5 c (lit< tt))
-enabled_iff c (suc (suc (suc (suc zero)))) = enabling c 4 6 (omega arith) (omega arith) refl _ (bit-on 6 c (lit< tt))
+enabled_iff c (suc zero) = enabling c 1 0 (omega arith) (omega arith) refl _ (bit_on 0 c (lit< tt))
+enabled_iff c (suc (suc zero)) = enabling c 2 1 (omega arith) (omega arith) refl _ (bit_on 1 c (lit< tt))
+enabled_iff c (suc (suc (suc zero))) = enabling c 3 5 (omega arith) (omega arith) refl _ (bit_on 5 c (lit< tt))
+enabled_iff c (suc (suc (suc (suc zero)))) = enabling c 4 6 (omega arith) (omega arith) refl _ (bit_on 6 c (lit< tt))
 enabled_iff c (suc (suc (suc (suc (suc k))))) =
     let off : cond (eqb (suc (suc (suc (suc (suc k))))) 0) true (has 0 c) ≡ false =
     rw (ne_eqb (suc (suc (suc (suc (suc k))))) 0 (λ e. omega arith)) (ap (λ (y : ℕ). not (eqb y 0)) (and_zero_r c)) in
@@ -197,36 +197,36 @@ or_iff false true p q = (λ e. inr (q.0 refl), λ x. refl)
 or_iff false false p q = (λ e. absurd (true≢false (sym e)), ⊎_elim p.1 q.1)
 
 module _ (s : State) (k : ℕ) (m : List ℕ) where
-  no11-iff : (no11 s (packet frame_room k m) ≡ true) ↔ Says s k m (refused 11)
+  no11_iff : (no11 s (packet frame_room k m) ≡ true) ↔ Says s k m (refused 11)
   unfolding no11
-  no11-iff =
+  no11_iff =
       let is = ltb_iff 4 k in
       (λ e. inl (refl, is.0 e), ⊎_elim (λ z. is.1 z.1) (λ z. absurd (omega (arith, z.0))))
 
-  no9-iff : (no9 s (packet frame_room k m) ≡ true) ↔ Says s k m (refused 9)
+  no9_iff : (no9 s (packet frame_room k m) ≡ true) ↔ Says s k m (refused 9)
   unfolding no9
-  no9-iff =
+  no9_iff =
       let is = or_iff (ltb (length m) 6) (ltb 34 (length m)) (ltb_iff (length m) 6) (ltb_iff 34 (length m)) in
       (λ e. inr (refl, is.0 e), ⊎_elim (λ z. absurd (omega (arith, z.0))) (λ z. is.1 z.1))
 
   exact : Octets m → Exact (Says s k m) (causes s k m)
   unfolding kind_on is_control
-  exact o = (no11-iff, (no9-iff, (kind-iff, (crc_iff m o, (room, (good-crc-iff, (auto-crc, (auto-pre, (driver, tt)))))))))
+  exact o = (no11_iff, (no9_iff, (kind_iff, (crc_iff m o, (room, (good_crc_iff, (auto_crc, (auto_pre, (driver, tt)))))))))
     where
-      kind-iff : (not (kind_on k s) ≡ true) ↔ Says s k m kind_off
-      kind-iff = not_iff (kind_on k s) (enabled_iff (reg control1 s) k)
+      kind_iff : (not (kind_on k s) ≡ true) ↔ Says s k m kind_off
+      kind_iff = not_iff (kind_on k s) (enabled_iff (reg control1 s) k)
 
       room : (not (fits_rx m s) ≡ true) ↔ Says s k m no_room
       room = let r = room_iff (length s.rx + suc (length m)) in (λ e. omega (arith, r.0 e), λ h. r.1 (omega (arith, h)))
 
-      good-crc-iff : (is_control GoodCRC m ≡ true) ↔ Says s k m is_good_crc
-      good-crc-iff = three_iff _ _ _ (eqb_iff _ _) (eqb_iff _ _) (eqb_iff _ _)
+      good_crc_iff : (is_control GoodCRC m ≡ true) ↔ Says s k m is_good_crc
+      good_crc_iff = three_iff _ _ _ (eqb_iff _ _) (eqb_iff _ _) (eqb_iff _ _)
 
-      auto-crc : (not (has AUTO_CRC (reg switches1 s)) ≡ true) ↔ Says s k m auto_crc_off
-      auto-crc = bit-off 2 (reg switches1 s) (lit< tt)
+      auto_crc : (not (has AUTO_CRC (reg switches1 s)) ≡ true) ↔ Says s k m auto_crc_off
+      auto_crc = bit_off 2 (reg switches1 s) (lit< tt)
 
-      auto-pre : (has AUTO_PRE (reg control0 s) ≡ true) ↔ Says s k m auto_pre_on
-      auto-pre = bit-on 1 (reg control0 s) (lit< tt)
+      auto_pre : (has AUTO_PRE (reg control0 s) ≡ true) ↔ Says s k m auto_pre_on
+      auto_pre = bit_on 1 (reg control0 s) (lit< tt)
 
       driver : (not (driver_on (reg switches1 s)) ≡ true) ↔ Says s k m driver_off
       driver = driver_iff (reg switches1 s)
@@ -246,7 +246,7 @@ named_exactly =
             λ e. rw e at (means s k m o),
             λ f. first_some (Says s k m) (causes s k m) (exact s k m o) r f.before f.behind f.is f.not_before f.here,
           );
-      no_reason = λ s k m o. (λ e. rw e at (means s k m o), λ n. first-none (Says s k m) (causes s k m) (exact s k m o) n);
+      no_reason = λ s k m o. (λ e. rw e at (means s k m o), λ n. first_none (Says s k m) (causes s k m) (exact s k m o) n);
     }
 
 -- ---- what leaves at a packet
@@ -276,27 +276,27 @@ abbrev reply : ℕ → List ℕ → State → Frame
 reply k m s = control GoodCRC k (reg switches1 s) (message_id m)
 
 module _ (k : ℕ) (m : List ℕ) where
-  stores-frames : (s : State) → (stores k m s).frames ≡ cond (replies_to m s) (reply k m s ∷ []) []
+  stores_frames : (s : State) → (stores k m s).frames ≡ cond (replies_to m s) (reply k m s ∷ []) []
   unfolding stores
-  stores-frames s = frames_cond (replies_to m s) _ _
+  stores_frames s = frames_cond (replies_to m s) _ _
 
-  accepts-frames : (s : State) → (accepts k m s).frames ≡ cond (fits_rx m s) (cond (replies_to m s) (reply k m s ∷ []) []) []
+  accepts_frames : (s : State) → (accepts k m s).frames ≡ cond (fits_rx m s) (cond (replies_to m s) (reply k m s ∷ []) []) []
   unfolding accepts replies_to
-  accepts-frames s =
+  accepts_frames s =
       let t = noted_same k m s in
       frames_cond (fits_rx m (noted k m s)) _ _
-      ∙ ap (λ (fs : List Frame). cond (fits_rx m (noted k m s)) fs []) (stores-frames (noted k m s))
+      ∙ ap (λ (fs : List Frame). cond (fits_rx m (noted k m s)) fs []) (stores_frames (noted k m s))
       ∙ rw (t.0, t.1) refl
 
-  hears-frames : (s : State)
+  hears_frames : (s : State)
       → (hears k m s).frames
       ≡ sent_by (kind_on k s) (crc_right m) (fits_rx m s) (is_control GoodCRC m) (has AUTO_CRC (reg switches1 s)) (has AUTO_PRE (reg control0 s))
       (driver_on (reg switches1 s)) (reply k m s ∷ [])
   unfolding hears replies_to sent_by
-  hears-frames s =
+  hears_frames s =
       frames_cond (kind_on k s) _ _
       ∙ ap (λ (fs : List Frame). cond (kind_on k s) fs [])
-      (frames_cond (crc_right m) _ _ ∙ ap (λ (fs : List Frame). cond (crc_right m) fs []) (accepts-frames s))
+      (frames_cond (crc_right m) _ _ ∙ ap (λ (fs : List Frame). cond (crc_right m) fs []) (accepts_frames s))
 
 -- ---- what is named, by the same tests
 
@@ -353,32 +353,32 @@ module _ (s : State) (room k : ℕ) (m : List ℕ) where
       named_by (kind_on k s) (crc_right m) (fits_rx m s) (is_control GoodCRC m) (has AUTO_CRC (reg switches1 s)) (has AUTO_PRE (reg control0 s))
       (driver_on (reg switches1 s))
 
-  why-is : why s k m ≡ cond kind_no (some (refused 11)) (cond length_no (some (refused 9)) named)
+  why_is : why s k m ≡ cond kind_no (some (refused 11)) (cond length_no (some (refused 9)) named)
   unfolding why first_cause no11 no9 named_by
-  why-is = refl
+  why_is = refl
 
   module _ (lent : frame_room ≤ room) where
-    checks-are : refusal s event ≡ cond kind_no (some 11) (cond length_no (some 9) none)
-    checks-are = packet_checks s room k m ∙ simp (le-ltb room frame_room lent)
+    checks_are : refusal s event ≡ cond kind_no (some 11) (cond length_no (some 9) none)
+    checks_are = packet_checks s room k m ∙ simp (le-ltb room frame_room lent)
 
     -- frames and reply go by the tests
-    frames-are : (b c : Bool) → kind_no ≡ b → length_no ≡ c
+    frames_are : (b c : Bool) → kind_no ≡ b → length_no ≡ c
         → (step s event).frames ≡ sent_for (cond b (some (refused 11)) (cond c (some (refused 9)) named)) (reply k m s ∷ [])
     unfolding step result_of accepted
-    frames-are true c e f = rw (checks-are, e) refl
-    frames-are false true e f = rw (checks-are, e, f) refl
-    frames-are false false e f = rw (checks-are, e, f) (hears-frames k m s ∙ heard_sent _ _ _ _ _ _ _ (reply k m s ∷ []))
+    frames_are true c e f = rw (checks_are, e) refl
+    frames_are false true e f = rw (checks_are, e, f) refl
+    frames_are false false e f = rw (checks_are, e, f) (hears_frames k m s ∙ heard_sent _ _ _ _ _ _ _ (reply k m s ∷ []))
 
     sent_is : (step s event).frames ≡ sent_for (why s k m) (reply k m s ∷ [])
-    sent_is = frames-are kind_no length_no refl refl ∙ ap (λ (o : Option Reason). sent_for o (reply k m s ∷ [])) (sym why-is)
+    sent_is = frames_are kind_no length_no refl refl ∙ ap (λ (o : Option Reason). sent_for o (reply k m s ∷ [])) (sym why_is)
 
-    no-is : (n : ℕ) (b c : Bool) → kind_no ≡ b → length_no ≡ c
+    no_is : (n : ℕ) (b c : Bool) → kind_no ≡ b → length_no ≡ c
         → (cond b (some (refused 11)) (cond c (some (refused 9)) named) ≡ some (refused n)) ↔ ((step s event).reply ≡ no n)
     unfolding step result_of reply_to
-    no-is n true c e f = rw (checks-are, e) (λ q. cc, λ q. cc)
-    no-is n false true e f = rw (checks-are, e, f) (λ q. cc, λ q. cc)
-    no-is n false false e f =
-        rw (checks-are, e, f)
+    no_is n true c e f = rw (checks_are, e) (λ q. cc, λ q. cc)
+    no_is n false true e f = rw (checks_are, e, f) (λ q. cc, λ q. cc)
+    no_is n false false e f =
+        rw (checks_are, e, f)
         (λ q. absurd (heard_taken _ _ _ _ _ _ _ n q), λ q. let z : ◌≡◌ {A = ℕ} 0 1 = cc in absurd (omega arith))
 
 -- ---- 11. Leaves exactly
@@ -405,7 +405,7 @@ sent_none (some r) k m fs g = let alone = g.alone in let z : ◌≡◌ {A = ℕ}
 
 -- a kind above 4 is refused
 is_sop : (s : State) (k : ℕ) (m : List ℕ) → why s k m ≡ none → k < sop_kinds
-is_sop s k m e = go (ltb 4 k) refl (sym (why-is s frame_room k m) ∙ e)
+is_sop s k m e = go (ltb 4 k) refl (sym (why_is s frame_room k m) ∙ e)
   where
     go : (b : Bool) → ltb 4 k ≡ b
         → cond b (some (refused 11)) (cond (length_no s frame_room k m) (some (refused 9)) (named s frame_room k m)) ≡ none → k < sop_kinds
@@ -431,7 +431,7 @@ leaves_exactly =
     record {
       leaves = leaves;
       stays = stays;
-      refuses = λ s room k m n h. rw (why-is s room k m) (no-is s room k m h n _ _ refl refl);
+      refuses = λ s room k m n h. rw (why_is s room k m) (no_is s room k m h n _ _ refl refl);
     }
 
 -- ---- 11. Each reason is given

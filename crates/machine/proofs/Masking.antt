@@ -97,68 +97,68 @@ module _ (d : List ℕ) where
   abbrev With : Effect → Effect
   With x = record { state = with_cells d x.state; frames = x.frames }
 
-  cells-if : (b : Bool) (s t : State) → with_cells d (cond b s t) ≡ cond b (with_cells d s) (with_cells d t)
-  cells-if true s t = refl
-  cells-if false s t = refl
+  cells_if : (b : Bool) (s t : State) → with_cells d (cond b s t) ≡ cond b (with_cells d s) (with_cells d t)
+  cells_if true s t = refl
+  cells_if false s t = refl
 
-  with-if : (b : Bool) (x y : Effect) → With (cond b x y) ≡ cond b (With x) (With y)
-  with-if true x y = refl
-  with-if false x y = refl
+  with_if : (b : Bool) (x y : Effect) → With (cond b x y) ≡ cond b (With x) (With y)
+  with_if true x y = refl
+  with_if false x y = refl
 
-  with-sends : (o : Option Frame) (s : State) → With (sends_if o s) ≡ sends_if o (with_cells d s)
-  with-sends none s = refl
-  with-sends (some f) s = refl
+  with_sends : (o : Option Frame) (s : State) → With (sends_if o s) ≡ sends_if o (with_cells d s)
+  with_sends none s = refl
+  with_sends (some f) s = refl
 
-  with-resets : (w : ℕ) (q : Request) (o : Option Frame) (s : State) → With (soft_reset_follows w q o s) ≡ soft_reset_follows w q o (with_cells d s)
-  with-resets w q none s = refl
-  with-resets w q (some f) s = refl
+  with_resets : (w : ℕ) (q : Request) (o : Option Frame) (s : State) → With (soft_reset_follows w q o s) ≡ soft_reset_follows w q o (with_cells d s)
+  with_resets w q none s = refl
+  with_resets w q (some f) s = refl
 
   -- ---- time
 
-  fails-with : (p : Phase) (w : ℕ) (q : Request) (s : State) → fails p w q (with_cells d s) ≡ With (fails p w q s)
+  fails_with : (p : Phase) (w : ℕ) (q : Request) (s : State) → fails p w q (with_cells d s) ≡ With (fails p w q s)
   unfolding fails message_fails soft_fails
-  fails-with message w q s = simp (with-if, with-resets)
-  fails-with (soft_reset k) w q s = simp with-if
+  fails_with message w q s = simp (with_if, with_resets)
+  fails_with (soft_reset k) w q s = simp with_if
 
-  elapses-with : (w : ℕ) (q : Request) (s : State) → elapses w q (with_cells d s) ≡ With (elapses w q s)
+  elapses_with : (w : ℕ) (q : Request) (s : State) → elapses w q (with_cells d s) ≡ With (elapses w q s)
   unfolding elapses expires
-  elapses-with w q s = simp (with-if, with-sends, fails-with)
+  elapses_with w q s = simp (with_if, with_sends, fails_with)
 
   pub passes_with : (n : ℕ) (o : Option Request) (s : State) → passes n o (with_cells d s) ≡ With (passes n o s)
   unfolding passes
   passes_with n none s = refl
-  passes_with n (some q) s = elapses-with (q.waited + n) q s
+  passes_with n (some q) s = elapses_with (q.waited + n) q s
 
   module _ (s : State) (same : Agree s.cells d) where
-    start-with : start (with_cells d s) ≡ With (start s)
+    start_with : start (with_cells d s) ≡ With (start s)
     unfolding start latched
-    start-with = simp (same.sw, same.c3, with-sends)
+    start_with = simp (same.sw, same.c3, with_sends)
 
     -- ---- packets
 
-    keeps-with : (k : ℕ) (m : List ℕ) → keeps k m (with_cells d s) ≡ with_cells d (keeps k m s)
+    keeps_with : (k : ℕ) (m : List ℕ) → keeps k m (with_cells d s) ≡ with_cells d (keeps k m s)
     unfolding keeps
-    keeps-with k m = simp cells-if
+    keeps_with k m = simp cells_if
 
-    stores-with : (k : ℕ) (m : List ℕ) → stores k m (with_cells d s) ≡ With (stores k m s)
+    stores_with : (k : ℕ) (m : List ℕ) → stores k m (with_cells d s) ≡ With (stores k m s)
     unfolding stores replies_to
-    stores-with k m = simp (same.sw, same.c0, keeps-with, with-if)
+    stores_with k m = simp (same.sw, same.c0, keeps_with, with_if)
 
-  awaited-with : (k : ℕ) (m : List ℕ) (s : State) (o : Option Request) → awaited_by k m (with_cells d s) o ≡ awaited_by k m s o
+  awaited_with : (k : ℕ) (m : List ℕ) (s : State) (o : Option Request) → awaited_by k m (with_cells d s) o ≡ awaited_by k m s o
   unfolding awaited_by
-  awaited-with k m s none = refl
-  awaited-with k m s (some q) = refl
+  awaited_with k m s none = refl
+  awaited_with k m s (some q) = refl
 
-  noted-with : (k : ℕ) (m : List ℕ) (s : State) → noted k m (with_cells d s) ≡ with_cells d (noted k m s)
-  noted-with k m s =
+  noted_with : (k : ℕ) (m : List ℕ) (s : State) → noted k m (with_cells d s) ≡ with_cells d (noted k m s)
+  noted_with k m s =
       let heard = is_control Soft_Reset m in
       let t = only_if (awaited k m s) acknowledged (checks s) in
-      rw (awaited-with k m s s.request)
-      (ap (only_if heard soft_reset_heard) (sym (cells-if (awaited k m s) (acknowledged (checks s)) (checks s)))
-      ∙ sym (cells-if heard (soft_reset_heard t) t))
+      rw (awaited_with k m s s.request)
+      (ap (only_if heard soft_reset_heard) (sym (cells_if (awaited k m s) (acknowledged (checks s)) (checks s)))
+      ∙ sym (cells_if heard (soft_reset_heard t) t))
 
-  noted-cells : (k : ℕ) (m : List ℕ) (s : State) → (noted k m s).cells ≡ s.cells
-  noted-cells k m s = go (is_control Soft_Reset m) (awaited k m s)
+  noted_cells : (k : ℕ) (m : List ℕ) (s : State) → (noted k m s).cells ≡ s.cells
+  noted_cells k m s = go (is_control Soft_Reset m) (awaited k m s)
     where
       go : (b c : Bool) → (only_if b soft_reset_heard (only_if c acknowledged (checks s))).cells ≡ s.cells
       go true true = refl
@@ -167,36 +167,36 @@ module _ (d : List ℕ) where
       go false false = refl
 
   module _ (s : State) (same : Agree s.cells d) (k : ℕ) (m : List ℕ) where
-    accepts-with : accepts k m (with_cells d s) ≡ With (accepts k m s)
+    accepts_with : accepts k m (with_cells d s) ≡ With (accepts k m s)
     unfolding accepts
-    accepts-with = simp (noted-with, with-if, stores-with (noted k m s) (rw (noted-cells k m s) same) k m)
+    accepts_with = simp (noted_with, with_if, stores_with (noted k m s) (rw (noted_cells k m s) same) k m)
 
-    hears-with : hears k m (with_cells d s) ≡ With (hears k m s)
+    hears_with : hears k m (with_cells d s) ≡ With (hears k m s)
     unfolding hears kind_on
-    hears-with = simp (same.c1, with-if, accepts-with)
+    hears_with = simp (same.c1, with_if, accepts_with)
 
   -- ---- writes
 
   module _ (s : State) (same : Agree s.cells d) (v : ℕ) where
-    port-with : port_written v (with_cells d s) ≡ With (port_written v s)
+    port_with : port_written v (with_cells d s) ≡ With (port_written v s)
     unfolding port_written port_start queues
-    port-with = simp (with-if, cells-if, start-with s same)
+    port_with = simp (with_if, cells_if, start_with s same)
 
-    control0-with : control0_written v (with_cells d s) ≡ With (control0_written v s)
+    control0_with : control0_written v (with_cells d s) ≡ With (control0_written v s)
     unfolding control0_written
-    control0-with = rw (← cells-if (has TX_FLUSH v) (over s) s) (simp (with-if, flushed (has TX_FLUSH v)))
+    control0_with = rw (← cells_if (has TX_FLUSH v) (over s) s) (simp (with_if, flushed (has TX_FLUSH v)))
       where
         flushed : (b : Bool) → start (with_cells d (only_if b over s)) ≡ With (start (only_if b over s))
-        flushed true = start-with (over s) same
-        flushed false = start-with s same
+        flushed true = start_with (over s) same
+        flushed false = start_with s same
 
-    control1-with : control1_written v (with_cells d s) ≡ With (control1_written v s)
+    control1_with : control1_written v (with_cells d s) ≡ With (control1_written v s)
     unfolding control1_written
-    control1-with = simp cells-if
+    control1_with = simp cells_if
 
-    control3-with : control3_written v (with_cells d s) ≡ With (control3_written v s)
+    control3_with : control3_written v (with_cells d s) ≡ With (control3_written v s)
     unfolding control3_written send_hard_reset
-    control3-with = simp with-if
+    control3_with = simp with_if
 
 -- ---- steps
 
@@ -213,30 +213,30 @@ itself c = record { s0 = refl; sw = refl; me = refl; c0 = refl; c1 = refl; c3 = 
 
 module _ (s : State) (d : List ℕ) (h : cleared s.cells ≡ cleared d) where
   -- an effect that reads no mask leaves the cells, and so the masks alone differ
-  same-with : (f : State → Effect) → ((c : List ℕ) → Agree s.cells c → f (with_cells c s) ≡ With c (f s)) → Same (f s) (f (with_cells d s))
+  same_with : (f : State → Effect) → ((c : List ℕ) → Agree s.cells c → f (with_cells c s) ≡ With c (f s)) → Same (f s) (f (with_cells d s))
   unfolding cleared stored
-  same-with f e =
+  same_with f e =
       let cells : (f s).state.cells ≡ s.cells = ap (λ (x : Effect). x.state.cells) (e s.cells (itself s.cells)) in
       rw (e d (agree s.cells d h))
       (record { state = record { same = ap (λ (l : List ℕ). with_cells l (f s).state) (ap cleared cells ∙ h) }; frames = refl })
 
-  reset-same : (v : ℕ) → Same (reset_written v s) (reset_written v (with_cells d s))
+  reset_same : (v : ℕ) → Same (reset_written v s) (reset_written v (with_cells d s))
   unfolding reset_written restored pd_reset
-  reset-same v = go (has SW_RES v)
+  reset_same v = go (has SW_RES v)
     where
       go : (b : Bool)
           → Same (silent (cond b (with_pins s.pins power_up) (only_if (has PD_RESET v) pd_reset s)))
           (silent (cond b (with_pins s.pins power_up) (only_if (has PD_RESET v) pd_reset (with_cells d s))))
       go true = record { state = record { same = refl }; frames = refl }
-      go false = same-with (λ (u : State). silent (only_if (has PD_RESET v) pd_reset u)) (λ c a. ap silent (sym (cells-if c (has PD_RESET v) (pd_reset s) s)))
+      go false = same_with (λ (u : State). silent (only_if (has PD_RESET v) pd_reset u)) (λ c a. ap silent (sym (cells_if c (has PD_RESET v) (pd_reset s) s)))
 
-  commands-same : (a v : ℕ) → Same (commands a v s) (commands a v (with_cells d s))
+  commands_same : (a v : ℕ) → Same (commands a v s) (commands a v (with_cells d s))
   unfolding commands
-  commands-same a v =
-      same_if (eqb a control0) _ _ _ _ (same-with (control0_written v) (λ c g. control0-with c s g v))
-      (same_if (eqb a control1) _ _ _ _ (same-with (control1_written v) (λ c g. control1-with c s g v))
-      (same_if (eqb a control3) _ _ _ _ (same-with (control3_written v) (λ c g. control3-with c s g v))
-      (same_if (eqb a reset) _ _ _ _ (reset-same v) (same-with silent (λ c g. refl)))))
+  commands_same a v =
+      same_if (eqb a control0) _ _ _ _ (same_with (control0_written v) (λ c g. control0_with c s g v))
+      (same_if (eqb a control1) _ _ _ _ (same_with (control1_written v) (λ c g. control1_with c s g v))
+      (same_if (eqb a control3) _ _ _ _ (same_with (control3_written v) (λ c g. control3_with c s g v))
+      (same_if (eqb a reset) _ _ _ _ (reset_same v) (same_with silent (λ c g. refl)))))
 
 -- ---- what the comparators show
 
@@ -269,29 +269,29 @@ neither false c e = (refl, e)
 neither true c e = absurd (true≢false e)
 
 module _ (s : State) (d : List ℕ) (h : cleared s.cells ≡ cleared d) where
-  writes-same : (a v : ℕ) → Same (writes a v s) (writes a v (with_cells d s))
+  writes_same : (a v : ℕ) → Same (writes a v s) (writes a v (with_cells d s))
   unfolding writes
-  writes-same a v =
-      same_if (eqb a fifos) _ _ _ _ (same-with s d h (port_written v) (λ c g. port-with c s g v))
-      (commands-same (with_cells (stored a v s.cells) s) (stored a v d) (stored_same s.cells d a v h) a v)
+  writes_same a v =
+      same_if (eqb a fifos) _ _ _ _ (same_with s d h (port_written v) (λ c g. port_with c s g v))
+      (commands_same (with_cells (stored a v s.cells) s) (stored a v d) (stored_same s.cells d a v h) a v)
 
   written_same : (a v : ℕ) → Same (written a v s) (written a v (with_cells d s))
   unfolding written
   written_same a v =
-      let w = writes-same a v in
+      let w = writes_same a v in
       record { state = go (sw_reset a v) w; frames = w.frames }
     where
       go : (b : Bool) → Same (writes a v s) (writes a v (with_cells d s))
           → SameButMasks (cond b (writes a v s).state (reports s (writes a v s).state))
           (cond b (writes a v (with_cells d s)).state (reports (with_cells d s) (writes a v (with_cells d s)).state))
       go true w = w.state
-      go false w = reports_same s _ (with_cells d s) _ (same-with s d h silent (λ c g. refl)).state w.state
+      go false w = reports_same s _ (with_cells d s) _ (same_with s d h silent (λ c g. refl)).state w.state
 
-  accepted-same : (e : Event) → Same (accepted s e) (accepted (with_cells d s) e)
+  accepted_same : (e : Event) → Same (accepted s e) (accepted (with_cells d s) e)
   unfolding accepted after_read hard_reset_heard senses
-  accepted-same (write r a v) = written_same a v
-  accepted-same (read r a) =
-      same-with s d h (λ (u : State). silent (cond (eqb a fifos) (with_rx (drop 1 u.rx) u) (with_ints (cleared_at a u.ints) u)))
+  accepted_same (write r a v) = written_same a v
+  accepted_same (read r a) =
+      same_with s d h (λ (u : State). silent (cond (eqb a fifos) (with_rx (drop 1 u.rx) u) (with_ints (cleared_at a u.ints) u)))
       (λ c g. ap silent (go c (eqb a fifos)))
     where
       go : (c : List ℕ) (b : Bool)
@@ -299,32 +299,32 @@ module _ (s : State) (d : List ℕ) (h : cleared s.cells ≡ cleared d) where
           ≡ with_cells c (cond b (with_rx (drop 1 s.rx) s) (with_ints (cleared_at a s.ints) s))
       go c true = refl
       go c false = refl
-  accepted-same (pass r n) = same-with s d h (λ (u : State). passes n u.request u) (λ c g. passes_with c n s.request s)
-  accepted-same (hard_reset r) = same-with s d h (λ (u : State). silent (hard_reset_heard u)) (λ c g. refl)
-  accepted-same (packet r k m) = same-with s d h (hears k m) (λ c g. hears-with c s g k m)
-  accepted-same (sense r x y z) =
+  accepted_same (pass r n) = same_with s d h (λ (u : State). passes n u.request u) (λ c g. passes_with c n s.request s)
+  accepted_same (hard_reset r) = same_with s d h (λ (u : State). silent (hard_reset_heard u)) (λ c g. refl)
+  accepted_same (packet r k m) = same_with s d h (hears k m) (λ c g. hears_with c s g k m)
+  accepted_same (sense r x y z) =
       let p : Pins = record { cc1 = x; cc2 = y; vbus = z } in
-      same-with s d h (λ (u : State). silent (senses p u))
+      same_with s d h (λ (u : State). silent (senses p u))
       (λ c g. rw (readings_with s c g, readings_with (with_pins p s) c g) refl)
 
-  refusal-same : (e : Event) → refusal (with_cells d s) e ≡ refusal s e
+  refusal_same : (e : Event) → refusal (with_cells d s) e ≡ refusal s e
   unfolding refusal port_start starts to_be_stored queue_at no12 no1 no2 no6 no3 no5 no4 no7 no8 no11 no9 no10
-  refusal-same (write r a v) = rw (agree s.cells d h).sw refl
-  refusal-same (read r a) = refl
-  refusal-same (pass r n) = refl
-  refusal-same (hard_reset r) = refl
-  refusal-same (packet r k m) = refl
-  refusal-same (sense r x y z) = refl
+  refusal_same (write r a v) = rw (agree s.cells d h).sw refl
+  refusal_same (read r a) = refl
+  refusal_same (pass r n) = refl
+  refusal_same (hard_reset r) = refl
+  refusal_same (packet r k m) = refl
+  refusal_same (sense r x y z) = refl
 
   step_same : (e : Event)
       → SameButMasks (step s e).state (step (with_cells d s) e).state × ((step s e).frames ≡ (step (with_cells d s) e).frames)
   unfolding step result_of
-  step_same e = rw (refusal-same e) (go (refusal s e))
+  step_same e = rw (refusal_same e) (go (refusal s e))
     where
       go : (o : Option ℕ)
           → SameButMasks (result_of o s e).state (result_of o (with_cells d s) e).state × ((result_of o s e).frames ≡ (result_of o (with_cells d s) e).frames)
-      go (some n) = let z = same-with s d h silent (λ c g. refl) in (z.state, z.frames)
-      go none = let z = accepted-same e in (z.state, z.frames)
+      go (some n) = let z = same_with s d h silent (λ c g. refl) in (z.state, z.frames)
+      go none = let z = accepted_same e in (z.state, z.frames)
 
   value_same : (a : ℕ) → is_mask a ≡ false → read_value a (with_cells d s) ≡ read_value a s
   unfolding read_value cell status0_of status1_of status1a_of
@@ -337,29 +337,29 @@ module _ (s : State) (d : List ℕ) (h : cleared s.cells ≡ cleared d) where
         readings_with s d (agree s.cells d h),
       ) refl
 
-  reply-same : (e : Event) → on_read is_mask e ≡ false → reply_to (with_cells d s) e ≡ reply_to s e
+  reply_same : (e : Event) → on_read is_mask e ≡ false → reply_to (with_cells d s) e ≡ reply_to s e
   unfolding reply_to
-  reply-same (write r a v) n = refl
-  reply-same (read r a) n = ap value (value_same a n)
-  reply-same (pass r k) n = refl
-  reply-same (hard_reset r) n = refl
-  reply-same (packet r k m) n = refl
-  reply-same (sense r x y z) n = refl
+  reply_same (write r a v) n = refl
+  reply_same (read r a) n = ap value (value_same a n)
+  reply_same (pass r k) n = refl
+  reply_same (hard_reset r) n = refl
+  reply_same (packet r k m) n = refl
+  reply_same (sense r x y z) n = refl
 
-  step-reply : (e : Event) → on_read is_mask e ≡ false → (step s e).reply ≡ (step (with_cells d s) e).reply
+  step_reply : (e : Event) → on_read is_mask e ≡ false → (step s e).reply ≡ (step (with_cells d s) e).reply
   unfolding step result_of
-  step-reply e n = rw (refusal-same e) (go (refusal s e))
+  step_reply e n = rw (refusal_same e) (go (refusal s e))
     where
       go : (o : Option ℕ) → (result_of o s e).reply ≡ (result_of o (with_cells d s) e).reply
       go (some k) = refl
-      go none = sym (reply-same e n)
+      go none = sym (reply_same e n)
 
 -- ---- the theorem, of any two states that differ in the masks alone
 
 module _ (s t : State) (h : SameButMasks s t) where
-  same-cells : cleared s.cells ≡ cleared t.cells
+  same_cells : cleared s.cells ≡ cleared t.cells
   unfolding cleared stored
-  same-cells = ap (λ (u : State). u.cells) h.same
+  same_cells = ap (λ (u : State). u.cells) h.same
 
   rest : with_cells t.cells s ≡ t
   rest = ap (with_cells t.cells) h.same
@@ -367,8 +367,8 @@ module _ (s t : State) (h : SameButMasks s t) where
 pub masks_only_mask : MasksOnlyMask
 masks_only_mask =
     record {
-      states = λ s t e h. rw (rest s t h) at (step_same s t.cells (same-cells s t h) e).0;
-      recorded = λ s t e h. ap (λ (u : State). u.ints) (rw (rest s t h) at (step_same s t.cells (same-cells s t h) e).0).same;
-      frames = λ s t e h. rw (rest s t h) at (step_same s t.cells (same-cells s t h) e).1;
-      replies = λ s t e h n. rw (rest s t h) at (step-reply s t.cells (same-cells s t h) e n);
+      states = λ s t e h. rw (rest s t h) at (step_same s t.cells (same_cells s t h) e).0;
+      recorded = λ s t e h. ap (λ (u : State). u.ints) (rw (rest s t h) at (step_same s t.cells (same_cells s t h) e).0).same;
+      frames = λ s t e h. rw (rest s t h) at (step_same s t.cells (same_cells s t h) e).1;
+      replies = λ s t e h n. rw (rest s t h) at (step_reply s t.cells (same_cells s t h) e n);
     }

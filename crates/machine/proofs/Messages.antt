@@ -71,25 +71,25 @@ stored_no false true false m d e = (refl, refl)
 stored_no false false z m d e = let z : ◌≡◌ {A = ℕ} 0 1 = cc in absurd (omega arith)
 
 module _ (s : State) (room v : ℕ) (enough : frame_room ≤ room) (free : s.request ≡ none) where
-  port-refusal : refusal s (write room fifos v)
+  port_refusal : refusal s (write room fifos v)
       ≡ port_no (inside s.tx) (is_token v) (eqb v START) (leb tx_room (length s.tx)) (is_message s.tx) (driver_on (reg switches1 s))
   unfolding
       refusal first_no no12 no1 no2 no6 no3 no5 no4 no7 no8 no11 no9 no10
       exists is_stored read_only tx_start port_start starts sends_reset to_be_stored queue_at
-  port-refusal = simp (le-ltb room frame_room enough, free, or-false)
+  port_refusal = simp (le-ltb room frame_room enough, free, or-false)
 
   pub stored_step : storable (to_come 0 s.tx) v ≡ true → length s.tx < tx_room
       → ((step s (write room fifos v)).state ≡ queues v s) × ((step s (write room fifos v)).frames ≡ [])
   unfolding step result_of accepted port_written port_start inside
   stored_step e h =
       let b = stored_no (inside s.tx) (is_token v) (eqb v START) (is_message s.tx) (driver_on (reg switches1 s)) e in
-      let taken : refusal s (write room fifos v) ≡ none = rw (port-refusal, lt-leb tx_room (length s.tx) h) b.0 in
+      let taken : refusal s (write room fifos v) ≡ none = rw (port_refusal, lt-leb tx_room (length s.tx) h) b.0 in
       (rw (taken, port_written_lem v s, b.1), rw (taken, port_written_lem v s, b.1))
 
 start_sends : (s : State) (q : List ℕ) (room : ℕ) (f : Frame) → frame_room ≤ room → Ready s q → to_come 0 q ≡ 0 → spelt q ≡ some f
     → frames s (write room fifos START ∷ []) ≡ f ∷ []
 unfolding frames step result_of accepted port_written port_start start is_token set_symbol inside
-start_sends s q room f enough r left e = simp (port-refusal s room START enough r.free, port_written_lem START s, r.holds, left, e, r.on)
+start_sends s q room f enough r left e = simp (port_refusal s room START enough r.free, port_written_lem START s, r.holds, left, e, r.on)
 
 queued : (s : State) (q : List ℕ) (v : ℕ) → Ready s q → Ready (queues v s) (q ++ (v ∷ []))
 unfolding queues
@@ -108,14 +108,14 @@ module _ (room : ℕ) (enough : frame_room ≤ room) where
   writing : List ℕ → List Event
   writing l = map (write room fifos) l
 
-  all-stored : (l q : List ℕ) (s : State) → Ready s q → AllStored (to_come 0 q) l → length q + length l ≤ tx_room
+  all_stored : (l q : List ℕ) (s : State) → Ready s q → AllStored (to_come 0 q) l → length q + length l ≤ tx_room
       → Ready (after s (writing l)) (q ++ l) × ((es : List Event) → frames s (writing l ++ es) ≡ frames (after s (writing l)) es)
   unfolding writing after frames
-  all-stored [] q s r a h = (rw append-nil r, λ es. refl)
-  all-stored (v ∷ l) q s r a h =
+  all_stored [] q s r a h = (rw append-nil r, λ es. refl)
+  all_stored (v ∷ l) q s r a h =
       let p = stored_step s room v enough r.free (rw r.holds a.0) (rw r.holds (omega arith)) in
       let next : Ready (step s (write room fifos v)).state (q ++ (v ∷ [])) = rw p.0 (queued s q v r) in
-      let ih = all-stored l (q ++ (v ∷ [])) _ next (rw to_come_append a.1) (simp length-append (omega arith)) in
+      let ih = all_stored l (q ++ (v ∷ [])) _ next (rw to_come_append a.1) (simp length-append (omega arith)) in
       (rw append_assoc at ih.0, λ es. rw p.1 (ih.1 es))
 
 -- ---- the message
@@ -130,7 +130,7 @@ any_message_sent s f set room (Whole.message h o lo hi) tokens sop empty free on
     let stored : Stores 0 q 0 =
     stores_append set _ 0 0 0 (set_stored set f.kind (omega arith) tokens)
     (stores_append ((0x80 + length m) ∷ m) closing 0 0 0 (block_stored m lo hi) closing_stored) in
-    let r = all-stored room enough q [] s (record { holds = empty; free = free; on = on }) stored.all (simp length-append (omega arith)) in
+    let r = all_stored room enough q [] s (record { holds = empty; free = free; on = on }) stored.all (simp length-append (omega arith)) in
     let whole = spelt_of q f (record { set = set; sop = sop; tokens = tokens; many = lo; few = hi; is = refl }) in
     let parted : set ++ ((0x80 + length m) ∷ (m ++ (closing ++ (START ∷ [])))) ≡ q ++ (START ∷ []) = simp append_assoc in
     ap (λ (l : List ℕ). frames s (map (write room fifos) l)) parted

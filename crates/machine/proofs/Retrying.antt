@@ -111,11 +111,11 @@ module _ (q : Request) (f : Frame) (base : State) where
   Goes n fs x = Stage q f base n x.state (fs ++ x.frames)
 
   -- another way to write what was sent
-  sent-as : {n : ℕ} {t : State} {fs gs : List Frame} → Stage q f base n t fs → fs ≡ gs → Stage q f base n t gs
-  sent-as {n} {t} st e = subst (λ (l : List Frame). Stage q f base n t l) e st
+  sent_as : {n : ℕ} {t : State} {fs gs : List Frame} → Stage q f base n t fs → fs ≡ gs → Stage q f base n t gs
+  sent_as {n} {t} st e = subst (λ (l : List Frame). Stage q f base n t l) e st
 
   unsent : {n : ℕ} {t : State} {fs : List Frame} → Stage q f base n t fs → Goes n fs (silent t)
-  unsent {fs = fs} st = sent-as st (sym (append-nil fs))
+  unsent {fs = fs} st = sent_as st (sym (append-nil fs))
 
   goes_by : (n : ℕ) (fs : List Frame) {x y : Effect} → x ≡ y → Goes n fs y → Goes n fs x
   goes_by n fs e st = subst (Goes n fs) (sym e) st
@@ -128,42 +128,42 @@ module _ (q : Request) (f : Frame) (base : State) where
   abbrev Comes : Phase → ℕ → ℕ → ℕ → State → Effect → Type 0
   Comes p k w t s x = elapses t (goes_on p k w q) (waiting p k w s) ≡ x
 
-  waits-on : (p : Phase) (k w t : ℕ) (s : State) → t < wait → Comes p k w t s (silent (waiting p k t s))
-  waits-on p k w t s h = before_the_end (waiting p k w s) (goes_on p k w q) t h
+  waits_on : (p : Phase) (k w t : ℕ) (s : State) → t < wait → Comes p k w t s (silent (waiting p k t s))
+  waits_on p k w t s h = before_the_end (waiting p k w s) (goes_on p k w q) t h
 
   module _ (k w t : ℕ) (long : wait ≤ t) where
-    sends-again : k < q.retries → spelt base.tx ≡ some f → Comes message k w t base (sends f (waiting message (suc k) (t - wait) base))
+    sends_again : k < q.retries → spelt base.tx ≡ some f → Comes message k w t base (sends f (waiting message (suc k) (t - wait) base))
     unfolding elapses expires flight_in
-    sends-again more spells = simp (le-ltb t wait long, lt-ltb k q.retries more, spells)
+    sends_again more spells = simp (le-ltb t wait long, lt-ltb k q.retries more, spells)
 
-    resets-again : (s : State) → k < q.retries → Comes (soft_reset f.kind) k w t s (sends (soft_reset_of f.kind q) (waiting (soft_reset f.kind) (suc k) (t - wait) s))
+    resets_again : (s : State) → k < q.retries → Comes (soft_reset f.kind) k w t s (sends (soft_reset_of f.kind q) (waiting (soft_reset f.kind) (suc k) (t - wait) s))
     unfolding elapses expires flight_in
-    resets-again s more = simp (le-ltb t wait long, lt-ltb k q.retries more)
+    resets_again s more = simp (le-ltb t wait long, lt-ltb k q.retries more)
 
     module _ (s : State) (last : q.retries ≤ k) where
-      message-resets : q.soft ≡ true → spelt s.tx ≡ some f → Comes message k w t s (sends (soft_reset_of f.kind q) (waiting (soft_reset f.kind) 0 (t - wait) (failed s)))
+      message_resets : q.soft ≡ true → spelt s.tx ≡ some f → Comes message k w t s (sends (soft_reset_of f.kind q) (waiting (soft_reset f.kind) 0 (t - wait) (failed s)))
       unfolding elapses expires fails message_fails
-      message-resets soft spells = rw (le-ltb t wait long, le-ltb k q.retries last, soft, spells) refl
+      message_resets soft spells = rw (le-ltb t wait long, le-ltb k q.retries last, soft, spells) refl
 
       message_ends : q.soft ≡ false → Comes message k w t s (silent (failed s))
       unfolding elapses expires fails message_fails
       message_ends soft = rw (le-ltb t wait long, le-ltb k q.retries last, soft) refl
 
-      reset-hard : q.hard ≡ true → Comes (soft_reset f.kind) k w t s (sends hard_reset_frame (raises_a I_HARDSENT (soft_failed s)))
+      reset_hard : q.hard ≡ true → Comes (soft_reset f.kind) k w t s (sends hard_reset_frame (raises_a I_HARDSENT (soft_failed s)))
       unfolding elapses expires fails soft_fails
-      reset-hard hard = rw (le-ltb t wait long, le-ltb k q.retries last, hard) refl
+      reset_hard hard = rw (le-ltb t wait long, le-ltb k q.retries last, hard) refl
 
-      reset-ends : q.hard ≡ false → Comes (soft_reset f.kind) k w t s (silent (soft_failed s))
+      reset_ends : q.hard ≡ false → Comes (soft_reset f.kind) k w t s (silent (soft_failed s))
       unfolding elapses expires fails soft_fails
-      reset-ends hard = rw (le-ltb t wait long, le-ltb k q.retries last, hard) refl
+      reset_ends hard = rw (le-ltb t wait long, le-ltb k q.retries last, hard) refl
 
   module _ (k w n m : ℕ) (few : k ≤ q.retries) (short : w < wait) (part : m ≤ wait) where
     abbrev t : ℕ
     t = w + m
 
-    message-goes : spelt base.tx ≡ some f → n ≡ k * wait + w
+    message_goes : spelt base.tx ≡ some f → n ≡ k * wait + w
         → Goes (n + m) (replicate (suc k) f) (elapses t (goes_on message k w q) (waiting message k w base))
-    message-goes spells is = go (ltb t wait) refl (ltb k q.retries) refl q.soft refl
+    message_goes spells is = go (ltb t wait) refl (ltb k q.retries) refl q.soft refl
       where
         fs : List Frame
         fs = replicate (suc k) f
@@ -172,28 +172,28 @@ module _ (q : Request) (f : Frame) (base : State) where
             → Goes (n + m) fs (elapses t (goes_on message k w q) (waiting message k w base))
         go true e c g d h =
             let z = ltb-true t wait e in
-            goes_by (n + m) fs (waits-on message k w t base z) (unsent (sending k t few z (omega arith)))
+            goes_by (n + m) fs (waits_on message k w t base z) (unsent (sending k t few z (omega arith)))
         go false e true g d h =
             let z = ltb-false t wait e in
             let y = ltb-true k q.retries g in
-            goes_by (n + m) fs (sends-again k w t z y spells)
-            (sent-as (sending (suc k) (t - wait) y (omega arith) (omega arith)) (sym (one_more (suc k) f)))
+            goes_by (n + m) fs (sends_again k w t z y spells)
+            (sent_as (sending (suc k) (t - wait) y (omega arith) (omega arith)) (sym (one_more (suc k) f)))
         go false e false g true h =
             let z = ltb-false t wait e in
             let y = ltb-false k q.retries g in
             let last : q.retries ≡ k = omega arith in
-            goes_by (n + m) fs (message-resets k w t z base y h spells)
-            (sent-as (resetting 0 (t - wait) h (omega arith) (omega arith) (omega arith)) (rw last refl))
+            goes_by (n + m) fs (message_resets k w t z base y h spells)
+            (sent_as (resetting 0 (t - wait) h (omega arith) (omega arith) (omega arith)) (rw last refl))
         go false e false g false h =
             let z = ltb-false t wait e in
             let y = ltb-false k q.retries g in
             let last : q.retries ≡ k = omega arith in
-            goes_by (n + m) fs (message_ends k w t z base y h) (sent-as (message_over h (omega arith)) (rw last (sym (append-nil fs))))
+            goes_by (n + m) fs (message_ends k w t z base y h) (sent_as (message_over h (omega arith)) (rw last (sym (append-nil fs))))
 
-    reset-goes : q.soft ≡ true → n ≡ end_of q + (k * wait + w)
+    reset_goes : q.soft ≡ true → n ≡ end_of q + (k * wait + w)
         → Goes (n + m) (replicate (suc q.retries) f ++ replicate (suc k) (soft_reset_of f.kind q))
         (elapses t (goes_on (soft_reset f.kind) k w q) (waiting (soft_reset f.kind) k w (failed base)))
-    reset-goes soft is = go (ltb t wait) refl (ltb k q.retries) refl q.hard refl
+    reset_goes soft is = go (ltb t wait) refl (ltb k q.retries) refl q.hard refl
       where
         fs : List Frame
         fs = replicate (suc q.retries) f ++ replicate (suc k) (soft_reset_of f.kind q)
@@ -202,33 +202,33 @@ module _ (q : Request) (f : Frame) (base : State) where
             → Goes (n + m) fs (elapses t (goes_on (soft_reset f.kind) k w q) (waiting (soft_reset f.kind) k w (failed base)))
         go true e c g d h =
             let z = ltb-true t wait e in
-            goes_by (n + m) fs (waits-on (soft_reset f.kind) k w t (failed base) z) (unsent (resetting k t soft few z (omega arith)))
+            goes_by (n + m) fs (waits_on (soft_reset f.kind) k w t (failed base) z) (unsent (resetting k t soft few z (omega arith)))
         go false e true g d h =
             let z = ltb-false t wait e in
             let y = ltb-true k q.retries g in
-            goes_by (n + m) fs (resets-again k w t z (failed base) y)
-            (sent-as (resetting (suc k) (t - wait) soft y (omega arith) (omega arith))
+            goes_by (n + m) fs (resets_again k w t z (failed base) y)
+            (sent_as (resetting (suc k) (t - wait) soft y (omega arith) (omega arith))
             (ap (λ (l : List Frame). replicate (suc q.retries) f ++ l) (sym (one_more (suc k) (soft_reset_of f.kind q))) ∙ sym (append_assoc (replicate (suc q.retries) f) _ _)))
         go false e false g true h =
             let z = ltb-false t wait e in
             let y = ltb-false k q.retries g in
             let last : q.retries ≡ k = omega arith in
-            goes_by (n + m) fs (reset-hard k w t z (failed base) y h) (sent-as (hard_reset_sent soft h (omega arith)) (rw last refl))
+            goes_by (n + m) fs (reset_hard k w t z (failed base) y h) (sent_as (hard_reset_sent soft h (omega arith)) (rw last refl))
         go false e false g false h =
             let z = ltb-false t wait e in
             let y = ltb-false k q.retries g in
             let last : q.retries ≡ k = omega arith in
-            goes_by (n + m) fs (reset-ends k w t z (failed base) y h) (sent-as (reset_over soft h (omega arith)) (rw last (sym (append-nil _))))
+            goes_by (n + m) fs (reset_ends k w t z (failed base) y h) (sent_as (reset_over soft h (omega arith)) (rw last (sym (append-nil _))))
 
   -- any stage, and a part of time
-  stage-goes : spelt base.tx ≡ some f → {n : ℕ} {t : State} {fs : List Frame} → Stage q f base n t fs → (m : ℕ) → m ≤ wait
+  stage_goes : spelt base.tx ≡ some f → {n : ℕ} {t : State} {fs : List Frame} → Stage q f base n t fs → (m : ℕ) → m ≤ wait
       → Goes (n + m) fs (passes m t.request t)
   unfolding passes
-  stage-goes spells (sending k w {n} few short is) m part = message-goes k w n m few short part spells is
-  stage-goes spells (resetting k w {n} soft few short is) m part = reset-goes k w n m few short part soft is
-  stage-goes spells (message_over soft h) m part = unsent (message_over soft (omega arith))
-  stage-goes spells (reset_over soft hard h) m part = unsent (reset_over soft hard (omega arith))
-  stage-goes spells (hard_reset_sent soft hard h) m part = unsent (hard_reset_sent soft hard (omega arith))
+  stage_goes spells (sending k w {n} few short is) m part = message_goes k w n m few short part spells is
+  stage_goes spells (resetting k w {n} soft few short is) m part = reset_goes k w n m few short part soft is
+  stage_goes spells (message_over soft h) m part = unsent (message_over soft (omega arith))
+  stage_goes spells (reset_over soft hard h) m part = unsent (reset_over soft hard (omega arith))
+  stage_goes spells (hard_reset_sent soft hard h) m part = unsent (hard_reset_sent soft hard (omega arith))
 
 -- ---- time events
 
@@ -249,18 +249,18 @@ unfolding after frames
 first_then s e es p q = (rw p refl, rw (p, q) refl)
 
 module _ (q : Request) (f : Frame) (base : State) (spells : spelt base.tx ≡ some f) (room : ℕ) (enough : frame_room ≤ room) where
-  stage-runs : (ns : List ℕ) → AllParts ns → {n : ℕ} {t : State} {fs : List Frame} → Stage q f base n t fs
+  stage_runs : (ns : List ℕ) → AllParts ns → {n : ℕ} {t : State} {fs : List Frame} → Stage q f base n t fs
       → Stage q f base (n + in_all ns) (after t (passing room ns)) (fs ++ frames t (passing room ns))
   unfolding after frames
-  stage-runs [] parts {n} {t} {fs} st =
+  stage_runs [] parts {n} {t} {fs} st =
       let same : n + 0 ≡ n = omega arith in
       rw (same, append-nil) st
-  stage-runs (m ∷ ns) parts {n} {t} {fs} st =
-      let next = stage-goes q f base spells st m parts.0 in
+  stage_runs (m ∷ ns) parts {n} {t} {fs} st =
+      let next = stage_goes q f base spells st m parts.0 in
       let e = pass_step t room m enough parts.0 in
       let first = first_then t (pass room m) (passing room ns) e.0 e.1 in
       let sum : n + (m + in_all ns) ≡ n + m + in_all ns = omega arith in
-      rw (sum, first.0, first.1, ← append_assoc) (stage-runs ns parts.1 next)
+      rw (sum, first.0, first.1, ← append_assoc) (stage_runs ns parts.1 next)
 
 -- ---- an accepted start
 
@@ -373,23 +373,23 @@ take_behind : (k n : ℕ) (f : Frame) (l : List Frame) → take (n + k) (replica
 take_behind k n f l = rw (length-replicate n f) at (take-append-add (replicate n f) l k)
 
 module _ (q : Request) (f : Frame) (base : State) where
-  stage-sent : {n : ℕ} {t : State} {fs : List Frame} → Stage q f base n t fs
+  stage_sent : {n : ℕ} {t : State} {fs : List Frame} → Stage q f base n t fs
       → fs ≡ take (suc (n / wait)) (replicate (suc q.retries) f ++ sequel f.kind q)
-  stage-sent (sending k w few short is) =
+  stage_sent (sending k w few short is) =
       let d : (k * wait + w) / wait ≡ k = omega arith in
       rw (is, d) (sym (take_first (suc k) (suc q.retries) f (sequel f.kind q) (omega arith)))
-  stage-sent (resetting k w {n} soft few short is) =
+  stage_sent (resetting k w {n} soft few short is) =
       let d : suc q.retries + suc k ≡ suc (n / wait) = omega arith in
       let all = replicate (suc q.retries) f ++ (replicate (suc q.retries) (soft_reset_of f.kind q) ++ cond q.hard (hard_reset_frame ∷ []) []) in
       rw soft
       (sym (take_behind (suc k) (suc q.retries) f _
       ∙ ap (λ (l : List Frame). replicate (suc q.retries) f ++ l) (take_first (suc k) (suc q.retries) (soft_reset_of f.kind q) _ (omega arith)))
       ∙ ap (λ (c : ℕ). take c all) d)
-  stage-sent (message_over {n} soft h) =
+  stage_sent (message_over {n} soft h) =
       let messages = replicate (suc q.retries) f in
       let long = length-replicate (suc q.retries) f in
       rw soft (sym (ap (take (suc (n / wait))) (append-nil messages) ∙ take_all (suc (n / wait)) messages (omega arith)))
-  stage-sent (reset_over {n} soft hard h) =
+  stage_sent (reset_over {n} soft hard h) =
       let messages = replicate (suc q.retries) f in
       let resets = replicate (suc q.retries) (soft_reset_of f.kind q) in
       let one = length-replicate (suc q.retries) f in
@@ -397,7 +397,7 @@ module _ (q : Request) (f : Frame) (base : State) where
       let both = length-append messages resets in
       rw (soft, hard)
       (sym (ap (λ (l : List Frame). take (suc (n / wait)) (messages ++ l)) (append-nil resets) ∙ take_all (suc (n / wait)) (messages ++ resets) (omega arith)))
-  stage-sent (hard_reset_sent {n} soft hard h) =
+  stage_sent (hard_reset_sent {n} soft hard h) =
       let messages = replicate (suc q.retries) f in
       let resets = replicate (suc q.retries) (soft_reset_of f.kind q) in
       let one = length-replicate (suc q.retries) f in
@@ -432,8 +432,8 @@ module _ (s : State) (f : Frame) (t : State) (o : Opened s t f) where
   abbrev i : ℕ
   i = o.base.ints.a
 
-  sending-shows : (r : Request) → ComesTo s (with_request (some r) o.base) false false false true
-  sending-shows r =
+  sending_shows : (r : Request) → ComesTo s (with_request (some r) o.base) false false false true
+  sending_shows r =
       record {
         retryfail = has_none RETRYFAIL x o.retryfail;
         softfail = has_none SOFTFAIL x o.softfail;
@@ -444,8 +444,8 @@ module _ (s : State) (f : Frame) (t : State) (o : Opened s t f) where
         request = refl;
       }
 
-  failed-shows : (r : Option Request) → ComesTo s (with_request r (failed o.base)) true false false (is_some r)
-  failed-shows r =
+  failed_shows : (r : Option Request) → ComesTo s (with_request r (failed o.base)) true false false (is_some r)
+  failed_shows r =
       record {
         retryfail = has_set x RETRYFAIL;
         softfail = has_other SOFTFAIL x RETRYFAIL refl ∙ has_none SOFTFAIL x o.softfail;
@@ -456,9 +456,9 @@ module _ (s : State) (f : Frame) (t : State) (o : Opened s t f) where
         request = refl;
       }
 
-  soft-shows : ComesTo s (soft_failed (failed o.base)) true true false false
-  soft-shows =
-      let m = failed-shows none in
+  soft_shows : ComesTo s (soft_failed (failed o.base)) true true false false
+  soft_shows =
+      let m = failed_shows none in
       let y = bit_or x RETRYFAIL in
       let j = bit_or i I_RETRYFAIL in
       record {
@@ -471,9 +471,9 @@ module _ (s : State) (f : Frame) (t : State) (o : Opened s t f) where
         request = refl;
       }
 
-  hard-shows : ComesTo s (raises_a I_HARDSENT (soft_failed (failed o.base))) true true true false
-  hard-shows =
-      let m = soft-shows in
+  hard_shows : ComesTo s (raises_a I_HARDSENT (soft_failed (failed o.base))) true true true false
+  hard_shows =
+      let m = soft_shows in
       let k = bit_or (bit_or i I_RETRYFAIL) I_SOFTFAIL in
       record {
         retryfail = m.retryfail;
@@ -491,35 +491,35 @@ module _ (s : State) (f : Frame) (t : State) (o : Opened s t f) where
     ShowsBy u first second =
         ComesTo s u first (second && q.soft) ((second && q.soft) && q.hard) (not first || (q.soft && not (second && q.soft)))
 
-    stage-shows : {n : ℕ} {u : State} {fs : List Frame} → Stage q f o.base n u fs → ShowsBy u (leb (end_of q) n) (leb (end_of q + end_of q) n)
-    stage-shows (sending k w {n} few short is) =
-        rw (lt-leb (end_of q) n (omega arith), lt-leb (end_of q + end_of q) n (omega arith)) (sending-shows _)
-    stage-shows (resetting k w {n} soft few short is) =
-        rw (le-leb (end_of q) n (omega arith), lt-leb (end_of q + end_of q) n (omega arith), soft) (failed-shows (some _))
-    stage-shows (message_over {n} soft h) =
-        rw (le-leb (end_of q) n h, soft, and_none (leb (end_of q + end_of q) n)) (failed-shows none)
-    stage-shows (reset_over {n} soft hard h) =
-        rw (le-leb (end_of q) n (omega arith), le-leb (end_of q + end_of q) n h, soft, hard) soft-shows
-    stage-shows (hard_reset_sent {n} soft hard h) =
-        rw (le-leb (end_of q) n (omega arith), le-leb (end_of q + end_of q) n h, soft, hard) hard-shows
+    stage_shows : {n : ℕ} {u : State} {fs : List Frame} → Stage q f o.base n u fs → ShowsBy u (leb (end_of q) n) (leb (end_of q + end_of q) n)
+    stage_shows (sending k w {n} few short is) =
+        rw (lt-leb (end_of q) n (omega arith), lt-leb (end_of q + end_of q) n (omega arith)) (sending_shows _)
+    stage_shows (resetting k w {n} soft few short is) =
+        rw (le-leb (end_of q) n (omega arith), lt-leb (end_of q + end_of q) n (omega arith), soft) (failed_shows (some _))
+    stage_shows (message_over {n} soft h) =
+        rw (le-leb (end_of q) n h, soft, and_none (leb (end_of q + end_of q) n)) (failed_shows none)
+    stage_shows (reset_over {n} soft hard h) =
+        rw (le-leb (end_of q) n (omega arith), le-leb (end_of q + end_of q) n h, soft, hard) soft_shows
+    stage_shows (hard_reset_sent {n} soft hard h) =
+        rw (le-leb (end_of q) n (omega arith), le-leb (end_of q + end_of q) n h, soft, hard) hard_shows
 
 -- ---- 5. Retries are real
 
 module _ (s : State) (e : Event) (f : Frame) (room : ℕ) (enough : frame_room ≤ room) (st : Started s e f) where
-  started-runs : (ns : List ℕ) → AllParts ns
+  started_runs : (ns : List ℕ) → AllParts ns
       → Stage (latched s) f (start_opened s e f st).base (in_all ns) (after s (e ∷ passing room ns)) (frames s (e ∷ passing room ns))
-  started-runs ns parts =
+  started_runs ns parts =
       let o = start_opened s e f st in
       let first : Stage (latched s) f o.base 0 (step s e).state (f ∷ []) = rw o.is (sending 0 0 {n = 0} (omega arith) (omega arith) refl) in
       let then = first_then s e (passing room ns) refl st.sent in
       let sum : 0 + in_all ns ≡ in_all ns = omega arith in
-      rw (then.0, then.1) (rw sum at (stage-runs (latched s) f o.base o.spells room enough ns parts first))
+      rw (then.0, then.1) (rw sum at (stage_runs (latched s) f o.base o.spells room enough ns parts first))
 
 pub sent_to_the_end : SentToTheEnd
-sent_to_the_end s e f room ns enough parts st = stage-sent (latched s) f _ (started-runs s e f room enough st ns parts)
+sent_to_the_end s e f room ns enough parts st = stage_sent (latched s) f _ (started_runs s e f room enough st ns parts)
 
 pub fails_exactly : FailsExactly
-fails_exactly s e f room ns enough parts st = stage-shows s f _ (start_opened s e f st) (latched s) (started-runs s e f room enough st ns parts)
+fails_exactly s e f room ns enough parts st = stage_shows s f _ (start_opened s e f st) (latched s) (started_runs s e f room enough st ns parts)
 
 -- ---- between its message's failure and its own a Soft_Reset is in flight, on the message's kind
 
@@ -535,7 +535,7 @@ stage_resets q f base (hard_reset_sent soft hard h) soft' late early = absurd (o
 pub resets_after_start : (s : State) (e : Event) (f : Frame) (room : ℕ) (ns : List ℕ) → frame_room ≤ room → AllParts ns → Started s e f
     → (latched s).soft ≡ true → end_of (latched s) ≤ in_all ns → in_all ns < end_of (latched s) + end_of (latched s)
     → Resetting (after s (e ∷ passing room ns)) f.kind
-resets_after_start s e f room ns enough parts st = stage_resets (latched s) f _ (started-runs s e f room enough st ns parts)
+resets_after_start s e f room ns enough parts st = stage_resets (latched s) f _ (started_runs s e f room enough st ns parts)
 
 -- ---- while there are retries to send, the next wait sends one
 
@@ -544,7 +544,7 @@ stage_again : (q : Request) (f : Frame) (base : State) → spelt base.tx ≡ som
     → (k : ℕ) → n ≡ k * wait → k < q.retries → (passes wait t.request t).frames ≡ f ∷ []
 unfolding passes
 stage_again q f base spells (sending j w few short is) k at more =
-    ap (λ (x : Effect). x.frames) (sends-again q f base j w (w + wait) (omega arith) (omega arith) spells)
+    ap (λ (x : Effect). x.frames) (sends_again q f base j w (w + wait) (omega arith) (omega arith) spells)
 stage_again q f base spells (resetting j w soft few short is) k at more = absurd (omega arith)
 stage_again q f base spells (message_over soft h) k at more = absurd (omega arith)
 stage_again q f base spells (reset_over soft hard h) k at more = absurd (omega arith)
@@ -560,4 +560,4 @@ next_sent s e f room enough st n more =
     let parts = all_waits n in
     let o = start_opened s e f st in
     (pass_step _ room wait enough (omega arith)).1
-    ∙ stage_again (latched s) f o.base o.spells (started-runs s e f room enough st (replicate n wait) parts.0) n parts.1 more
+    ∙ stage_again (latched s) f o.base o.spells (started_runs s e f room enough st (replicate n wait) parts.0) n parts.1 more

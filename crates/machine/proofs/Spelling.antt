@@ -107,8 +107,8 @@ module _ (set l : List ℕ) (x : ℕ) (four : length set ≡ 4) where
   behind : drop 5 (set ++ (x ∷ l)) ≡ l
   behind = sym (drop-drop 1 4 (set ++ (x ∷ l))) ∙ ap (drop 1) (drop_at set (x ∷ l) 4 four)
 
-  far-behind : (n : ℕ) → drop (5 + n) (set ++ (x ∷ l)) ≡ drop n l
-  far-behind n = sym (drop-drop n 5 (set ++ (x ∷ l))) ∙ ap (drop n) behind
+  far_behind : (n : ℕ) → drop (5 + n) (set ++ (x ∷ l)) ≡ drop n l
+  far_behind n = sym (drop-drop n 5 (set ++ (x ∷ l))) ∙ ap (drop n) behind
 
 pub spelt_of : (q : List ℕ) (f : Frame) → Spells q f → spelt q ≡ some f
 unfolding spelt spelt_by carries
@@ -129,7 +129,7 @@ spelt_of q f s =
       lt-ltb f.kind sop_kinds h,
       le-leb 2 n lo,
       behind set (m ++ closing) (0x80 + n) four,
-      far-behind set (m ++ closing) (0x80 + n) four n,
+      far_behind set (m ++ closing) (0x80 + n) four n,
       drop-append_seam m closing,
     )
 

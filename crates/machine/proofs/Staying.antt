@@ -219,45 +219,45 @@ flight_whole (soft_reset k) q tx o g f e =
     let same : soft_reset_of k q ≡ f = cc in subst Whole same (control_whole _ k q.switches1 0 g.0)
 
 module _ (s : State) (g : Good s) (q : Request) (r : RequestGood q s.tx) where
-  resets-fine : (w : ℕ) → w < wait → (o : Option Frame) → spelt s.tx ≡ o → (t : State) → t.tx ≡ [] → Good t → Fine (soft_reset_follows w q o t)
-  resets-fine w h none is t empty good = quiet t good
-  resets-fine w h (some f) is t empty good =
+  resets_fine : (w : ℕ) → w < wait → (o : Option Frame) → spelt s.tx ≡ o → (t : State) → t.tx ≡ [] → Good t → Fine (soft_reset_follows w q o t)
+  resets_fine w h none is t empty good = quiet t good
+  resets_fine w h (some f) is t empty good =
       let kind = ((spelt_exactly s.tx f).0 is).sop in
       sent _ _ (control_whole _ _ q.switches1 0 (omega (arith, kind)))
       (keeps_request t good _
       (record { octet = r.octet; few = r.few; sent = omega arith; waited = h; phase = (omega (arith, kind), empty) }))
 
-  fails-fine : (p : Phase) (w : ℕ) → w < wait → Fine (fails p w q s)
+  fails_fine : (p : Phase) (w : ℕ) → w < wait → Fine (fails p w q s)
   unfolding fails message_fails soft_fails
-  fails-fine Phase.message w h =
+  fails_fine Phase.message w h =
       let t = keeps_raises_a _ (keeps_shows _ (keeps_over s g) RETRYFAIL refl) I_RETRYFAIL refl in
-      by_test q.soft _ _ (λ e. resets-fine w h (spelt s.tx) refl _ refl t) (λ e. quiet _ t)
-  fails-fine (soft_reset k) w h =
+      by_test q.soft _ _ (λ e. resets_fine w h (spelt s.tx) refl _ refl t) (λ e. quiet _ t)
+  fails_fine (soft_reset k) w h =
       let t = keeps_raises_a _ (keeps_shows _ (keeps_over s g) SOFTFAIL refl) I_SOFTFAIL refl in
       by_test q.hard _ _ (λ e. sent hard_reset_frame _ reset_whole (keeps_raises_a _ t I_HARDSENT refl)) (λ e. quiet _ t)
 
-  expires-fine : (w : ℕ) → w < wait → Fine (expires w q s)
+  expires_fine : (w : ℕ) → w < wait → Fine (expires w q s)
   unfolding expires
-  expires-fine w h =
+  expires_fine w h =
       by_test (ltb q.sent q.retries) _ _
       (λ e. sent_if (flight s q) _ (flight_whole q.phase q s.tx g.tx r.phase)
       (keeps_request s g (goes_on q.phase (suc q.sent) w q)
       (record { octet = r.octet; few = r.few; sent = ltb-true q.sent q.retries e; waited = h; phase = r.phase })))
-      (λ e. fails-fine q.phase w h)
+      (λ e. fails_fine q.phase w h)
 
-  elapses-fine : (w : ℕ) → w < wait + wait → Fine (elapses w q s)
+  elapses_fine : (w : ℕ) → w < wait + wait → Fine (elapses w q s)
   unfolding elapses
-  elapses-fine w h =
+  elapses_fine w h =
       by_test (ltb w wait) _ _
       (λ e. quiet _
       (keeps_request s g (goes_on q.phase q.sent w q)
       (record { octet = r.octet; few = r.few; sent = r.sent; waited = ltb-true w wait e; phase = r.phase })))
-      (λ e. let z = ltb-false w wait e in expires-fine (w - wait) (omega arith))
+      (λ e. let z = ltb-false w wait e in expires_fine (w - wait) (omega arith))
 
 passes_fine : (s : State) → Good s → (n : ℕ) → n ≤ 1000 → (o : Option Request) → OpenGood o s.tx → Fine (passes n o s)
 unfolding passes
 passes_fine s g n h none r = quiet s g
-passes_fine s g n h (some q) r = let w = r.waited in elapses-fine s g q r (q.waited + n) (omega arith)
+passes_fine s g n h (some q) r = let w = r.waited in elapses_fine s g q r (q.waited + n) (omega arith)
 
 -- ---- packets
 
@@ -278,27 +278,27 @@ module _ (k : ℕ) (m : List ℕ) (kind : k < sop_kinds) (octets : Octets m) whe
       let t = keeps_kind _ (keeps_rx s g q (octets_append s.rx (rx_token k ∷ m) g.rx (token_octet k, octets)) n) k kind in
       keeps_when _ t (rx_full (with_rx q s)) (raises I_ALERT) (keeps_raises _ t I_ALERT refl)
 
-  stores-fine : (s : State) → Good s → fits_rx m s ≡ true → Fine (stores k m s)
+  stores_fine : (s : State) → Good s → fits_rx m s ≡ true → Fine (stores k m s)
   unfolding stores
-  stores-fine s g h =
+  stores_fine s g h =
       let t = kept s g h in
       by_test (replies_to m s) _ _
       (λ e. sent _ _ (control_whole GoodCRC k (reg switches1 s) (message_id m) kind) (keeps_raises_b _ t I_GCRCSENT refl))
       (λ e. quiet _ t)
 
-  accepts-fine : (s : State) → Good s → Fine (accepts k m s)
+  accepts_fine : (s : State) → Good s → Fine (accepts k m s)
   unfolding accepts
-  accepts-fine s g =
+  accepts_fine s g =
       let a = keeps_raises _ (keeps_crc_chk s g true) I_CRC_CHK refl in
       let b = keeps_when _ a (awaited k m s) acknowledged (keeps_raises_a _ (keeps_over _ a) I_TXSENT refl) in
       let c = keeps_when _ b (is_control Soft_Reset m) soft_reset_heard (keeps_raises_a _ (keeps_shows _ b SOFTRST refl) I_SOFTRST refl) in
-      by_test (fits_rx m (noted k m s)) _ _ (λ e. stores-fine (noted k m s) c e) (λ e. quiet _ (keeps_raises _ c I_ALERT refl))
+      by_test (fits_rx m (noted k m s)) _ _ (λ e. stores_fine (noted k m s) c e) (λ e. quiet _ (keeps_raises _ c I_ALERT refl))
 
-  hears-fine : (s : State) → Good s → Fine (hears k m s)
+  hears_fine : (s : State) → Good s → Fine (hears k m s)
   unfolding hears
-  hears-fine s g =
+  hears_fine s g =
       by_test (kind_on k s) _ _
-      (λ e. by_test (crc_right m) _ _ (λ e. accepts-fine s g) (λ e. quiet _ (keeps_crc_chk s g false)))
+      (λ e. by_test (crc_right m) _ _ (λ e. accepts_fine s g) (λ e. quiet _ (keeps_crc_chk s g false)))
       (λ e. quiet s g)
 
 -- ---- writes
@@ -323,9 +323,9 @@ no_request none tx e = tt
 no_request (some q) tx e = let z : ◌≡◌ {A = ℕ} 0 1 = cc in absurd (omega arith)
 
 module _ (s : State) (g : Good s) (room v : ℕ) (octet : v < 256) where
-  port-fine : NoneApplies (table s (write room fifos v)) → Fine (port_written v s)
+  port_fine : NoneApplies (table s (write room fifos v)) → Fine (port_written v s)
   unfolding port_written queues port_start starts tx_start to_be_stored queue_at no3 no4 no5 no6
-  port-fine rows =
+  port_fine rows =
       let c =
       port_cases (inside s.tx) (is_token v) (eqb v START) (is_message s.tx) (leb tx_room (length s.tx))
       rows.1.1.1.1.0 rows.1.1.1.1.1.0 rows.1.1.1.1.1.1.0 in
@@ -338,13 +338,13 @@ module _ (s : State) (g : Good s) (room v : ℕ) (octet : v < 256) where
 
   -- the state with the register stored
   module _ (a : ℕ) where
-    kept-cells : Good (with_cells (stored a v s.cells) s)
-    kept-cells = keeps_cells s g a v
+    kept_cells : Good (with_cells (stored a v s.cells) s)
+    kept_cells = keeps_cells s g a v
 
-  control0-fine : NoneApplies (table s (write room control0 v)) → Fine (control0_written v (with_cells (stored control0 v s.cells) s))
+  control0_fine : NoneApplies (table s (write room control0 v)) → Fine (control0_written v (with_cells (stored control0 v s.cells) s))
   unfolding control0_written starts tx_start port_start queue_at no4
-  control0-fine rows =
-      let t = kept-cells control0 in
+  control0_fine rows =
+      let t = kept_cells control0 in
       let u = keeps_when _ t (has TX_FLUSH v) over (keeps_over _ t) in
       by_test (has TX_START v) _ _
       (λ e. start_fine _ u (flushed (has TX_FLUSH v) (not_false _ (sym (ap (λ (b : Bool). (b || false) && not (is_message (queue_at s control0 v))) e) ∙ rows.1.1.1.1.1.1.0))))
@@ -354,12 +354,12 @@ module _ (s : State) (g : Good s) (room v : ℕ) (octet : v < 256) where
       flushed true h = h
       flushed false h = h
 
-  commands-fine : (a : ℕ) → NoneApplies (table s (write room a v)) → Fine (commands a v (with_cells (stored a v s.cells) s))
+  commands_fine : (a : ℕ) → NoneApplies (table s (write room a v)) → Fine (commands a v (with_cells (stored a v s.cells) s))
   unfolding commands control1_written control3_written send_hard_reset reset_written restored pd_reset
-  commands-fine a rows =
-      let t = kept-cells a in
+  commands_fine a rows =
+      let t = kept_cells a in
       by_test (eqb a control0) _ _
-      (λ e. let is = eqb-true a control0 e in subst (λ (x : ℕ). Fine (control0_written v (with_cells (stored x v s.cells) s))) (sym is) (control0-fine (subst (λ (x : ℕ). NoneApplies (table s (write room x v))) is rows)))
+      (λ e. let is = eqb-true a control0 e in subst (λ (x : ℕ). Fine (control0_written v (with_cells (stored x v s.cells) s))) (sym is) (control0_fine (subst (λ (x : ℕ). NoneApplies (table s (write room x v))) is rows)))
       (λ e. by_test (eqb a control1) _ _
       (λ e. quiet _ (keeps_when _ t (has RX_FLUSH v) (with_rx []) (keeps_rx _ t [] tt (omega arith))))
       (λ e. by_test (eqb a control3) _ _
@@ -374,17 +374,17 @@ module _ (s : State) (g : Good s) (room v : ℕ) (octet : v < 256) where
       restarts true h = keeps_pins power_up power_up_good s.pins g.pins
       restarts false h = h
 
-  writes-fine : (a : ℕ) → NoneApplies (table s (write room a v)) → Fine (writes a v s)
+  writes_fine : (a : ℕ) → NoneApplies (table s (write room a v)) → Fine (writes a v s)
   unfolding writes
-  writes-fine a rows =
+  writes_fine a rows =
       by_test (eqb a fifos) _ _
-      (λ e. port-fine (subst (λ (x : ℕ). NoneApplies (table s (write room x v))) (eqb-true a fifos e) rows))
-      (λ e. commands-fine a rows)
+      (λ e. port_fine (subst (λ (x : ℕ). NoneApplies (table s (write room x v))) (eqb-true a fifos e) rows))
+      (λ e. commands_fine a rows)
 
-  written-fine : (a : ℕ) → NoneApplies (table s (write room a v)) → Fine (written a v s)
+  written_fine : (a : ℕ) → NoneApplies (table s (write room a v)) → Fine (written a v s)
   unfolding written
-  written-fine a rows =
-      let w = writes-fine a rows in
+  written_fine a rows =
+      let w = writes_fine a rows in
       record { good = go (sw_reset a v) w.good; whole = w.whole; few = w.few }
     where
       go : (b : Bool) {t : State} → Good t → Good (cond b t (reports s t))
@@ -403,13 +403,13 @@ reads_fine s g a = go (eqb a fifos)
 
 accepted_fine : (s : State) (e : Event) → Good s → Fits e → NoneApplies (table s e) → Fine (accepted s e)
 unfolding accepted hard_reset_heard senses no10 no11
-accepted_fine s (write r a v) g f rows = written-fine s g r v f.1 a rows
+accepted_fine s (write r a v) g f rows = written_fine s g r v f.1 a rows
 accepted_fine s (read r a) g f rows = quiet _ (reads_fine s g a)
 accepted_fine s (pass r n) g f rows =
     passes_fine s g n (ltb-false 1000 n rows.1.1.1.1.1.1.1.1.1.1.1.0) s.request g.request
 accepted_fine s (hard_reset r) g f rows = quiet _ (keeps_raises_a _ (keeps_shows _ (keeps_over s g) HARDRST refl) I_HARDRST refl)
 accepted_fine s (packet r k m) g f rows =
-    hears-fine k m (let z = ltb-false 4 k rows.1.1.1.1.1.1.1.1.1.0 in omega arith) f.1 s g
+    hears_fine k m (let z = ltb-false 4 k rows.1.1.1.1.1.1.1.1.1.0 in omega arith) f.1 s g
 accepted_fine s (sense r x y z) g f rows =
     let p : Pins = record { cc1 = x; cc2 = y; vbus = z } in
     quiet _ (reports_good s (with_pins p s) (keeps_pins s g p (record { cc1 = f.0; cc2 = f.1.0; vbus = f.1.1 })))

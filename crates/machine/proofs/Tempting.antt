@@ -12,7 +12,7 @@ use lib.Dec.{ltb, eqb}
 use lib.ListN.{get_or}
 use Rattle.line.specs.Frame.{Frame}
 use Rattle.line.specs.Refusal.{first_no}
-use Rattle.machine.specs.Registers.{stored_bits, cell, switches1, has}
+use Rattle.machine.specs.Registers.{stored_bits, cell, has}
 use Rattle.machine.specs.State.{Phase, message, soft_reset, Request, State, with_cells, with_tx, with_request, shows, raises, raises_a}
 use Rattle.machine.specs.Status.{tx_full, RETRYFAIL, I_RETRYFAIL, I_ALERT}
 use Rattle.machine.specs.Queue.{inside, spelt}
@@ -68,16 +68,16 @@ abbrev asking : ℕ → ℕ → Bool → Bool → Phase → ℕ → ℕ → Requ
 asking a r soft hard p k w = record { switches1 = a; retries = r; soft = soft; hard = hard; phase = p; sent = k; waited = w }
 
 module _ (s : State) (a r : ℕ) (soft hard : Bool) (k : ℕ) where
-  resets-once : (o : Option Frame) (v w t : ℕ) (u : State) → soft_reset_follows t (asking a r soft hard message k v) o u ≡ soft_reset_follows t (asking a r soft hard message k w) o u
-  resets-once none v w t u = refl
-  resets-once (some f) v w t u = refl
+  resets_once : (o : Option Frame) (v w t : ℕ) (u : State) → soft_reset_follows t (asking a r soft hard message k v) o u ≡ soft_reset_follows t (asking a r soft hard message k w) o u
+  resets_once none v w t u = refl
+  resets_once (some f) v w t u = refl
 
   -- how long a request has waited is told by the time in all, and not twice
-  waited-once : (p : Phase) (v w t : ℕ)
+  waited_once : (p : Phase) (v w t : ℕ)
       → elapses t (asking a r soft hard p k v) (with_request (some (asking a r soft hard p k v)) s) ≡ elapses t (asking a r soft hard p k w) s
   unfolding elapses expires fails flight_in message_fails soft_fails
-  waited-once message v w t = rw (resets-once (spelt s.tx) v w (t - wait) (raises_a I_RETRYFAIL (shows RETRYFAIL (over s)))) refl
-  waited-once (soft_reset i) v w t = refl
+  waited_once message v w t = rw (resets_once (spelt s.tx) v w (t - wait) (raises_a I_RETRYFAIL (shows RETRYFAIL (over s)))) refl
+  waited_once (soft_reset i) v w t = refl
 
 module _ (m : ℕ) where
   -- the request goes on and its wait does not run out; or there is none
@@ -91,43 +91,43 @@ module _ (m : ℕ) where
   unfolding onward passes
   idle fs s e = simp (e, append-nil)
 
-  onward-cond : (b : Bool) (x y u v : Effect) → onward m x ≡ u → onward m y ≡ v → onward m (cond b x y) ≡ cond b u v
-  onward-cond true x y u v p q = p
-  onward-cond false x y u v p q = q
+  onward_cond : (b : Bool) (x y u v : Effect) → onward m x ≡ u → onward m y ≡ v → onward m (cond b x y) ≡ cond b u v
+  onward_cond true x y u v p q = p
+  onward_cond false x y u v p q = q
 
   module _ (s : State) (q : Request) (w : ℕ) (h : w + m < wait) where
-    sends-onward : (o : Option Frame)
+    sends_onward : (o : Option Frame)
         → onward m (sends_if o (with_request (some (goes_on q.phase (suc q.sent) w q)) s))
         ≡ sends_if o (with_request (some (goes_on q.phase (suc q.sent) (w + m) q)) s)
-    sends-onward none = still [] (goes_on q.phase (suc q.sent) w q) s h
-    sends-onward (some f) = still (f ∷ []) (goes_on q.phase (suc q.sent) w q) s h
+    sends_onward none = still [] (goes_on q.phase (suc q.sent) w q) s h
+    sends_onward (some f) = still (f ∷ []) (goes_on q.phase (suc q.sent) w q) s h
 
-    resets-onward : (o : Option Frame) (t : State) → t.request ≡ none → onward m (soft_reset_follows w q o t) ≡ soft_reset_follows (w + m) q o t
-    resets-onward none t e = idle [] t e
-    resets-onward (some f) t e = still (soft_reset_of f.kind q ∷ []) (goes_on (soft_reset f.kind) 0 w q) t h
+    resets_onward : (o : Option Frame) (t : State) → t.request ≡ none → onward m (soft_reset_follows w q o t) ≡ soft_reset_follows (w + m) q o t
+    resets_onward none t e = idle [] t e
+    resets_onward (some f) t e = still (soft_reset_of f.kind q ∷ []) (goes_on (soft_reset f.kind) 0 w q) t h
 
-    fails-onward : (p : Phase) → onward m (fails p w q s) ≡ fails p (w + m) q s
+    fails_onward : (p : Phase) → onward m (fails p w q s) ≡ fails p (w + m) q s
     unfolding fails message_fails soft_fails
-    fails-onward message = onward-cond q.soft _ _ _ _ (resets-onward (spelt s.tx) _ refl) (idle [] _ refl)
-    fails-onward (soft_reset k) = onward-cond q.hard _ _ _ _ (idle (hard_reset_frame ∷ []) _ refl) (idle [] _ refl)
+    fails_onward message = onward_cond q.soft _ _ _ _ (resets_onward (spelt s.tx) _ refl) (idle [] _ refl)
+    fails_onward (soft_reset k) = onward_cond q.hard _ _ _ _ (idle (hard_reset_frame ∷ []) _ refl) (idle [] _ refl)
 
-    expires-onward : onward m (expires w q s) ≡ expires (w + m) q s
+    expires_onward : onward m (expires w q s) ≡ expires (w + m) q s
     unfolding expires
-    expires-onward = onward-cond (ltb q.sent q.retries) _ _ _ _ (sends-onward (flight s q)) (fails-onward q.phase)
+    expires_onward = onward_cond (ltb q.sent q.retries) _ _ _ _ (sends_onward (flight s q)) (fails_onward q.phase)
 
   waiting : (s : State) (q : Request) (w : ℕ) → onward m (silent (with_request (some (goes_on q.phase q.sent w q)) s)) ≡ elapses (w + m) q s
   unfolding onward passes
   waiting s q w =
-      waited-once s q.switches1 q.retries q.soft q.hard q.sent q.phase w q.waited (w + m)
+      waited_once s q.switches1 q.retries q.soft q.hard q.sent q.phase w q.waited (w + m)
 
-  elapses-onward : (s : State) (q : Request) (w : ℕ) → w + m < wait + wait → onward m (elapses w q s) ≡ elapses (w + m) q s
-  elapses-onward s q w h = go (ltb w wait) refl
+  elapses_onward : (s : State) (q : Request) (w : ℕ) → w + m < wait + wait → onward m (elapses w q s) ≡ elapses (w + m) q s
+  elapses_onward s q w h = go (ltb w wait) refl
     where
       go : (b : Bool) → ltb w wait ≡ b → onward m (elapses w q s) ≡ elapses (w + m) q s
       go true e = ap (onward m) (before_the_end s q w (ltb-true w wait e)) ∙ waiting s q w
       go false e =
           let z = ltb-false w wait e in
-          ap (onward m) (past_the_end s q w z) ∙ expires-onward s q (w - wait) (omega arith)
+          ap (onward m) (past_the_end s q w z) ∙ expires_onward s q (w - wait) (omega arith)
           ∙ ap (λ (t : ℕ). expires t q s) (omega arith) ∙ sym (past_the_end s q (w + m) (omega arith))
 
 passes_onward : (s : State) (n m : ℕ) → n + m ≤ wait → (o : Option Request) → OpenGood o s.tx → s.request ≡ o
@@ -136,7 +136,7 @@ unfolding passes
 passes_onward s n m h none g e = idle m [] s e
 passes_onward s n m h (some q) g e =
     let w = g.waited in
-    elapses-onward m s q (q.waited + n) (omega arith) ∙ ap (λ (t : ℕ). elapses t q s) (omega arith)
+    elapses_onward m s q (q.waited + n) (omega arith) ∙ ap (λ (t : ℕ). elapses t q s) (omega arith)
 
 pub time_adds : TimeAdds
 unfolding after frames onward

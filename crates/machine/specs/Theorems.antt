@@ -216,14 +216,14 @@ SentToTheEnd =
 
 -- what a start in s has come to in t: whether the message failed, the Soft_Reset failed, a Hard Reset left, and the request is open;
 -- of these three interrupts, those that were set before stay, and no other is set
-pub record ComesTo (s t : State) (failed soft_failed hardSent isOpen : Bool) : Type 0 where
+pub record ComesTo (s t : State) (failed soft_failed hard_sent is_open : Bool) : Type 0 where
   pub retryfail : has RETRYFAIL t.status.status0a ≡ failed
   pub softfail : has SOFTFAIL t.status.status0a ≡ soft_failed
   pub i_retryfail : has I_RETRYFAIL t.ints.a ≡ (failed || has I_RETRYFAIL s.ints.a)
   pub i_softfail : has I_SOFTFAIL t.ints.a ≡ (soft_failed || has I_SOFTFAIL s.ints.a)
-  pub i_hardsent : has I_HARDSENT t.ints.a ≡ (hardSent || has I_HARDSENT s.ints.a)
+  pub i_hardsent : has I_HARDSENT t.ints.a ≡ (hard_sent || has I_HARDSENT s.ints.a)
   pub queue : t.tx ≡ cond failed [] s.tx
-  pub request : opened t ≡ isOpen
+  pub request : opened t ≡ is_open
 
 -- the message fails at (r + 1) times 1,000 microseconds, the Soft_Reset at twice that, and neither earlier
 abbrev pub FailsExactly : Type 0
