@@ -144,7 +144,7 @@ pub(crate) const MASKA: usize = 12;
 pub(crate) const MASKB: usize = 13;
 
 // What stands at an address (01, 'Registers').
-#[derive(Drop)]
+#[derive(Clone, Copy)]
 pub(crate) enum Place {
     Id,
     Stored,

@@ -17,14 +17,14 @@ pub(crate) const FRAME_ROOM: usize = 73;
 // What stands for no kind, in the status and in a request.
 pub(crate) const NO_KIND: u8 = 5;
 
-#[derive(Drop)]
+#[derive(Clone, Copy)]
 pub struct Status {
     pub(crate) status0a: u8,
     pub(crate) crc_chk: bool,
     pub(crate) kind: u8,
 }
 
-#[derive(Drop)]
+#[derive(Clone, Copy)]
 pub struct Ints {
     pub(crate) a: u8,
     pub(crate) b: u8,
@@ -32,7 +32,7 @@ pub struct Ints {
 }
 
 // The open request, if `active`: what its start latched, the kind that its Soft_Reset is in flight on, if it is, and how far it has come.
-#[derive(Drop)]
+#[derive(Clone, Copy)]
 pub struct Request {
     pub(crate) active: bool,
     pub(crate) switches1: u8,
@@ -44,7 +44,7 @@ pub struct Request {
     pub(crate) waited: u16,
 }
 
-#[derive(Drop)]
+#[derive(Clone, Copy)]
 pub struct Device {
     pub(crate) cells: [u8; Device::REGISTERS],
     pub(crate) tx: Queue,
@@ -55,7 +55,7 @@ pub struct Device {
     pub(crate) pins: Pins,
 }
 
-#[derive(Drop)]
+#[derive(Clone, Copy)]
 pub enum Reply {
     Done,
     Value(u8),
@@ -63,7 +63,7 @@ pub enum Reply {
 }
 
 // What an event gives back: the device, its reply, and how many of the lent symbols it sent.
-#[derive(Drop)]
+#[derive(Clone, Copy)]
 pub struct Outcome {
     pub device: Device,
     pub reply: Reply,

@@ -2,7 +2,7 @@
 ghost use Rattle.std.specs.Prelude.{◌≡◌, [], ◌∷◌, ◌++◌, suc, ◌+◌, ◌≤◌, ◌<◌, length, drop, get_or};
 ghost use Rattle.fusb302.specs.Held.{held, Sound};
 
-#[derive(Drop)]
+#[derive(Clone, Copy)]
 pub struct Fifo {
     pub(crate) octets: [u8; Fifo::CAPACITY],
     pub(crate) len: usize,

@@ -1,4 +1,6 @@
 // The FUSB302B, driven by what firmware can touch: code proved to be the machine.
+#![tactic(auto)]
+
 mod bits;
 pub mod device;
 mod fifo;

@@ -17,15 +17,15 @@ use crate::bits::{
 use crate::device::{Device, FRAME_ROOM, Outcome};
 
 // A voltage, on a pin or as a threshold.
-#[derive(Drop)]
+#[derive(Clone, Copy)]
 pub struct Millivolts(pub u16);
 
 // MDAC in Measure: how many steps the reference lies above its lowest, and no voltage.
-#[derive(Drop)]
+#[derive(Clone, Copy)]
 struct MdacCode(u8);
 
 // The voltages that the comparators are given.
-#[derive(Drop)]
+#[derive(Clone, Copy)]
 pub struct Pins {
     pub(crate) cc1: Millivolts,
     pub(crate) cc2: Millivolts,
@@ -33,14 +33,14 @@ pub struct Pins {
 }
 
 // The voltage of the one CC pin that is measured.
-#[derive(Drop)]
+#[derive(Clone, Copy)]
 pub(crate) enum Measured {
     Pin(Millivolts),
     Nothing,
 }
 
 // VBUSOK, COMP and BC_LVL.
-#[derive(Drop)]
+#[derive(Clone, Copy)]
 pub(crate) struct Readings {
     pub(crate) vbus_ok: bool,
     pub(crate) comp: bool,

@@ -50,7 +50,7 @@ pub(crate) fn is_token(octet: u8) -> bool
 }
 
 // The octets written and not yet sent, and how many data octets of a counted block are still to come.
-#[derive(Drop)]
+#[derive(Clone, Copy)]
 pub struct Queue {
     pub(crate) octets: [u8; Queue::CAPACITY],
     pub(crate) len: usize,
@@ -58,7 +58,7 @@ pub struct Queue {
 }
 
 // The message that a queue spells: its kind and the number of its octets.
-#[derive(Drop)]
+#[derive(Clone, Copy)]
 pub(crate) enum Message {
     Spelt { kind: u8, count: usize },
     Nothing,

@@ -12,7 +12,7 @@ use crate::packets::kind_on;
 use line::crc::right;
 
 // The first reason why no reply leaves for a packet, or that one does.
-#[derive(Drop)]
+#[derive(Clone, Copy)]
 pub enum Why {
     Refused(u8),
     KindOff,
