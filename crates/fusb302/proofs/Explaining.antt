@@ -19,7 +19,7 @@ use Rattle.machine.specs.Refusals.{no11, no9}
 use Rattle.machine.specs.Why.{Reason, refused, kind_off, crc_wrong, no_room, is_good_crc, auto_crc_off, auto_pre_on, driver_off, causes, first_cause, why}
 use Rattle.fusb302.specs.declared.device.Device.{Device}
 use Rattle.fusb302.specs.View.{view, Arranged}
-use Rattle.fusb302.proofs.Hearing.{has_room, no_room}
+use Rattle.fusb302.proofs.Hearing.{has_room, no_room_lem}
 
 -- ---- each test, as the code makes it
 
@@ -29,7 +29,7 @@ module _ (d : Device) where
   is_off k a b e f = ap not (sym e) ∙ f
 
   pub is_full : (m : List ℕ) → Arranged d → 80 < d.rx.len + 1 + length m → not (fits_rx m (view d)) ≡ true
-  is_full m h lt = ap not (no_room d h m lt)
+  is_full m h lt = ap not (no_room_lem d h m lt)
 
   pub is_room : (m : List ℕ) → Arranged d → d.rx.len + 1 + length m ≤ 80 → not (fits_rx m (view d)) ≡ false
   is_room m h le = ap not (has_room d h m le)

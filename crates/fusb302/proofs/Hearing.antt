@@ -201,8 +201,8 @@ module _ (d : Device) (k : ℕ) (m : List ℕ) (t : Device) (kept : Becomes (kee
 pub has_room : (d : Device) → Arranged d → (m : List ℕ) → d.rx.len + 1 + length m ≤ 80 → fits_rx m (view d) ≡ true
 has_room d h m lt = let l = held_length d.rx h.rx in le-leb (length (held d.rx) + suc (length m)) 80 (omega arith)
 
-pub no_room : (d : Device) → Arranged d → (m : List ℕ) → 80 < d.rx.len + 1 + length m → fits_rx m (view d) ≡ false
-no_room d h m lt = let l = held_length d.rx h.rx in lt-leb (length (held d.rx) + suc (length m)) 80 (omega arith)
+pub no_room_lem : (d : Device) → Arranged d → (m : List ℕ) → 80 < d.rx.len + 1 + length m → fits_rx m (view d) ≡ false
+no_room_lem d h m lt = let l = held_length d.rx h.rx in lt-leb (length (held d.rx) + suc (length m)) 80 (omega arith)
 
 pub room_count : (d : Device) → Arranged d → (m : List ℕ) → fits_rx m (view d) ≡ true → d.rx.len + suc (length m) ≤ 80
 room_count d h m e =

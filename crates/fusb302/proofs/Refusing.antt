@@ -6,7 +6,7 @@ use mathlib.Core.List.{List, []}
 use mathlib.Core.Option.{Option, none, some}
 use Prim.Native.Nat.{ℕ, zero, suc, ◌<◌, ◌≤◌}
 use native.Mathlib.Omega.{arith}
-use borrow.Author.Tests.{lt-ltb, le-ltb, le-leb, lt-leb, leb-true, leb-false, eq-eqb, ne_eqb, not-true, not_false}
+use borrow.Author.Tests.{lt-ltb, le-ltb, le-leb, lt-leb, leb-true, leb-false, eq-eqb, ne_eqb, not-true, not-false}
 use lib.Dec.{ltb, leb, eqb}
 use lib.ListN.{length, get_or}
 use Rattle.line.specs.Write.{frame_room}
@@ -142,7 +142,7 @@ module _ (d : Device) (arranged : Arranged d) where
 
       pub port_data : (d.tx.left ≡ 0 → ⊥) → (n : ℕ) → n ≡ cond (full d) 5 0 → Refuses (view d) fifos v n
       port_data h n e =
-          at-port n true (is_token v) (eqb v START) (not_false _ (outside ∙ ne_eqb _ _ h)) refl refl
+          at-port n true (is_token v) (eqb v START) (not-false _ (outside ∙ ne_eqb _ _ h)) refl refl
           (data_no (is_token v) (eqb v START) (full d) (whole d) (on d) ∙ ap no_of (sym e))
 
       module _ (h : d.tx.left ≡ 0) where

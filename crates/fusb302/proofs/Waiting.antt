@@ -64,8 +64,8 @@ open_as q r x active h = ap (λ (b : Bool). cond b (some (asked r)) none) (h.0 �
 
 module _ (s : State) (t : Device) (is : Becomes s t) (q r : Request) (x : machine.Request) (active : q.active ≡ true)
     (goes : (r.active ≡ q.active) × (asked r ≡ x)) (u : Device) (h : Becomes (with_request (request_of r) (view t)) u) where
-  pub goes_on : Becomes (with_request (some x) s) u
-  goes_on =
+  pub goes_on_lem : Becomes (with_request (some x) s) u
+  goes_on_lem =
       and_then s t is (with_request (some x)) u (subst (λ o. Becomes (with_request o (view t)) u) (open_as q r x active goes) h)
 
 -- ---- failures
@@ -113,7 +113,7 @@ module _ (d : Device) (arranged : Arranged d) (tx : Queue) (q : Request) (w : �
         let phase = phase_reset k (spelt_kind tx m is k n e) in
         let now : (r.active ≡ q.active) × (asked r ≡ goes_on (soft_reset k) 0 w (asked q)) = (goes.0, goes.1 ∙ ap (λ (p : Phase). goes_on p 0 w (asked q)) phase) in
         rw (by_count tx m is k n e)
-        (sending _ u (goes_on (view d) d (itself d arranged) q r _ active now u h) before c after (soft_reset_of k (asked q)) sent)
+        (sending _ u (goes_on_lem (view d) d (itself d arranged) q r _ active now u h) before c after (soft_reset_of k (asked q)) sent)
 
 -- ---- a wait that ran out
 
@@ -126,7 +126,7 @@ module _ (d : Device) (w : ℕ) (before : List ℕ) where
   unfolding expires
   expires_again arranged active h q goes u x n after sent =
       rw (lt-ltb d.request.sent d.request.retries h, ← add-one d.request.sent)
-      (if_sending _ u (goes_on (view d) d (itself d arranged) d.request q _ active goes u x) before n after
+      (if_sending _ u (goes_on_lem (view d) d (itself d arranged) d.request q _ active goes u x) before n after
       (flight (view d) (asked d.request)) sent)
 
   -- what was in flight failed
@@ -181,7 +181,7 @@ module _ (d : Device) (asks : Asks d) (before : List ℕ) (us : ℕ) where
         pass_waits h q goes u x =
             passed _ is _ before
             (rw (lt-ltb (d.request.waited + us) 1000 h)
-            (silently _ u (goes_on (view d) d (itself d asks.arranged) d.request q _ active goes u x) before))
+            (silently _ u (goes_on_lem (view d) d (itself d asks.arranged) d.request q _ active goes u x) before))
 
         pub pass_expires : 1000 ≤ d.request.waited + us → (r : Outcome) (after : List ℕ)
             → Does (expires (d.request.waited + us - 1000) (asked d.request) (view d)) before r after
