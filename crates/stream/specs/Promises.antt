@@ -1,4 +1,4 @@
--- What the functions promise of a stream and the buffer that is read into. What is written, and when, is no part of it: the kit promises nothing of a write.
+-- What the functions promise of a stream and the buffer that is read into. What is written, and when, is no part of it: std promises nothing of a write.
 -- Assumes nothing.
 use Rattle.std.specs.Prelude.{◌≡◌, Bool, true, false, not, ◌&&◌, List, ℕ, ◌≤◌}
 use Rattle.stream.specs.declared.Input.{Input}

@@ -1,22 +1,25 @@
 // A program's standard input and output, in bounded memory: what is read and not yet taken, what is printed and not yet written.
 //
 // Proved is what each function leaves in memory; what a read or a write does outside is only run.
+#![tactic(auto)]
+
 ghost use Rattle.std.specs.Prelude.{◌≡◌, min, ◌≤◌};
 ghost use Rattle.text.specs.Put.{has_room};
 ghost use Rattle.stream.specs.Ready.{octet_waits};
 ghost use Rattle.stream.specs.Promises.{flushed, BeginsFresh, ReadsMore, WritesOut, MakesRoom, Fills, StepsTo};
 
+use std::io::{Print, Read, Stdin, Stdout};
 use text::put::has_room;
 
 // What was read and not yet taken: the octets from at to end of the buffer.
-#[derive(Drop)]
+#[derive(Clone, Copy)]
 pub struct Input {
     pub at: usize,
     pub end: usize,
 }
 
 // What is to be taken, how much is printed and not yet written, and whether the run goes on.
-#[derive(Drop)]
+#[derive(Clone, Copy)]
 pub struct Stream {
     pub input: Input,
     pub used: usize,
@@ -34,16 +37,16 @@ pub fn begin() -> Stream
 }
 
 // The input as it stands if an octet is there to take; else what one read gives, which is none at its end or where reading fails.
-fn more(input: Input, buf: &mut [u8; 65536]) -> Input
+fn more(mut stdin: Stdin, input: Input, buf: &mut [u8; 65536]) -> Input
     ensures { ReadsMore (octet_waits input) input buf.old result buf.new }
 {
     if input.at < input.end {
         return input;
     }
-    let got = libc::read(0, buf);
+    let got = stdin.read(buf);
     Input {
         at: 0,
-        end: io::count(got, buf),
+        end: got.unwrap_or(0),
     }
 }
 
@@ -64,36 +67,36 @@ fn least(a: usize, b: usize) -> usize
     if a < b { a } else { b }
 }
 
-// Writes what is printed. That the octets go out, and that the run ends where they do not, is only run: the kit promises nothing of a write.
-pub fn write_out(s: Stream, out: &[u8]) -> Stream
+// Writes what is printed. That the octets go out, and that the run ends where they do not, is only run: std promises nothing of a write.
+pub fn write_out(stdout: Stdout, s: Stream, out: &[u8]) -> Stream
     ensures { WritesOut s result }
 {
     let used = least(s.used, out.len());
-    let went = io::write_all(1, &out[..used]);
+    let went = stdout.write_all(&out[..used]).is_ok();
     flush(s, went)
 }
 
 // As it stands if `need` more fit behind what is printed, else `write_out`.
-pub fn room(s: Stream, need: usize, out: &[u8]) -> Stream
+pub fn room(stdout: Stdout, s: Stream, need: usize, out: &[u8]) -> Stream
     ensures { MakesRoom (has_room need out.now s.used) s result }
 {
     if has_room(need, out.len(), s.used) {
         return s;
     }
-    write_out(s, out)
+    write_out(stdout, s, out)
 }
 
 // As it stands if an octet is there to take; else `write_out` and, where the run goes on, what one read gives. That the write comes first is only run.
-pub fn fill(s: Stream, buf: &mut [u8; 65536], out: &[u8]) -> Stream
+pub fn fill(stdin: Stdin, stdout: Stdout, s: Stream, buf: &mut [u8; 65536], out: &[u8]) -> Stream
     ensures { Fills (octet_waits s.input) s buf.old result buf.new }
 {
     let input = s.input;
     if input.at < input.end {
         return s;
     }
-    let mut r = write_out(s, out);
+    let mut r = write_out(stdout, s, out);
     if r.on {
-        r.input = more(input, buf);
+        r.input = more(stdin, input, buf);
     }
     r
 }
