@@ -81,10 +81,10 @@ module _ (l : Listing) (window out : List ℕ) (at : ℕ) (right : Bounded l) (l
           counts = omega arith;
         }
 
-    stops-with : (t : List ℕ) (e : ℕ) (out' : List ℕ) → step_to (Symbol v) l.before (take l.count window) ≡ stops t → length t ≤ frame_line_room → Puts out at t e out'
+    stops_with : (t : List ℕ) (e : ℕ) (out' : List ℕ) → step_to (Symbol v) l.before (take l.count window) ≡ stops t → length t ≤ frame_line_room → Puts out at t e out'
         → Goes l (Symbol v) window out at (stopped l e) (set window l.count v) out'
     unfolding fed_by printed_by window_after
-    stops-with t e out' is few p =
+    stops_with t e out' is few p =
         record {
           fed = rw (is, p.next) refl;
           stands = rw is p.stands;
@@ -97,12 +97,12 @@ module _ (l : Listing) (window out : List ℕ) (at : ℕ) (right : Bounded l) (l
     pub goes_none : (q e : ℕ) (out' : List ℕ) → first all ≡ no_frame q → Puts out at (no_text 13 (l.before + q)) e out'
         → Goes l (Symbol v) window out at (stopped l e) (set window l.count v) out'
     unfolding on_symbol
-    goes_none q e out' is p = stops-with (no_text 13 (l.before + q)) e out' (by_first (no_frame q) is) (no_short 13 (l.before + q)) p
+    goes_none q e out' is p = stops_with (no_text 13 (l.before + q)) e out' (by_first (no_frame q) is) (no_short 13 (l.before + q)) p
 
     pub goes_wrong : (q e : ℕ) (out' : List ℕ) → first all ≡ wrong_crc q → Puts out at (no_text 15 (l.before + q)) e out'
         → Goes l (Symbol v) window out at (stopped l e) (set window l.count v) out'
     unfolding on_symbol
-    goes_wrong q e out' is p = stops-with (no_text 15 (l.before + q)) e out' (by_first (wrong_crc q) is) (no_short 15 (l.before + q)) p
+    goes_wrong q e out' is p = stops_with (no_text 15 (l.before + q)) e out' (by_first (wrong_crc q) is) (no_short 15 (l.before + q)) p
 
   -- ---- any other form of the text
 
