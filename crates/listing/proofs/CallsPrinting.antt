@@ -48,20 +48,20 @@ same_symbols : (n : ℕ) (window : List ℕ) → n ≤ length window → take (l
 same_symbols n window h = ap (λ (k : ℕ). take k window) (length-take-le n window h)
 
 module _ (n : ℕ) (window : List ℕ) (few : n < length window) (p : ℕ) where
-  kept-symbol : (v : ℕ) (f : First) → Kept (set window n v) (on_symbol (Symbol v) p (take n window ++ (v ∷ [])) f)
+  kept_symbol : (v : ℕ) (f : First) → Kept (set window n v) (on_symbol (Symbol v) p (take n window ++ (v ∷ [])) f)
   unfolding on_symbol
-  kept-symbol v (frame r) = refl
-  kept-symbol v (wrong_crc q) = tt
-  kept-symbol v (too_short q) =
+  kept_symbol v (frame r) = refl
+  kept_symbol v (wrong_crc q) = tt
+  kept_symbol v (too_short q) =
       let long : length (take n window ++ (v ∷ [])) ≡ n + 1 = omega (arith, length-append (take n window) (v ∷ []), length-take-le n window (omega arith)) in
       ap (λ (k : ℕ). take k (set window n v)) long ∙ one_more n v window few
-  kept-symbol v (no_frame q) = tt
+  kept_symbol v (no_frame q) = tt
 
   kept : (to : Scan) → Kept (window_after to n window) (step_to to p (take n window))
   unfolding step_to window_after
   kept Begin = same_symbols n window (omega arith)
   kept (Digit a) = same_symbols n window (omega arith)
-  kept (Symbol v) = kept-symbol v (first (take n window ++ (v ∷ [])))
+  kept (Symbol v) = kept_symbol v (first (take n window ++ (v ∷ [])))
   kept Line = same_symbols n window (omega arith)
   kept Space = same_symbols n window (omega arith)
   kept Broken = tt

@@ -9,8 +9,6 @@ use native.Mathlib.Nat.{add-zero}
 use native.Mathlib.Numerals.{add-one}
 use borrow.Author.Tests.{leb-true, ltb-true, ltb-false, lt-ltb, le-ltb}
 use lib.Dec.{ltb}
-use types.Run.{OneOf, miss}
-use denote.Enum.Declared.{tag_of}
 use lib.ListN.{length, take, set, length-append}
 use lib.Seq.{take-suc-set, length-take-le}
 use Rattle.line.specs.Read.{ReadFrame, First, frame, wrong_crc, too_short, no_frame, first}
@@ -26,7 +24,6 @@ use Rattle.listing.specs.Listed.{short_text}
 use Rattle.listing.specs.Scans.{form_after, input_may_end}
 use Rattle.listing.specs.Steps.{goes, stops, on_symbol, step_to, end_text}
 use Rattle.listing.specs.Promises.{window_room, Bounded, in_bounds, may_print, stopped, printed_by, fed_by, window_after, Goes, TakesCharacter, Feeds, Finishes}
-use Rattle.listing.specs.contracts.form.Scan.{the_type}
 use Rattle.listing.proofs.Places.{short_few}
 use Rattle.listing.proofs.Texts.{frame_short, no_short, bad_short}
 
@@ -84,10 +81,10 @@ module _ (l : Listing) (window out : List ℕ) (at : ℕ) (right : Bounded l) (l
           counts = omega arith;
         }
 
-    stops-with : (t : List ℕ) (e : ℕ) (out' : List ℕ) → step_to (Symbol v) l.before (take l.count window) ≡ stops t → length t ≤ frame_line_room → Puts out at t e out'
+    stops_with : (t : List ℕ) (e : ℕ) (out' : List ℕ) → step_to (Symbol v) l.before (take l.count window) ≡ stops t → length t ≤ frame_line_room → Puts out at t e out'
         → Goes l (Symbol v) window out at (stopped l e) (set window l.count v) out'
     unfolding fed_by printed_by window_after
-    stops-with t e out' is few p =
+    stops_with t e out' is few p =
         record {
           fed = rw (is, p.next) refl;
           stands = rw is p.stands;
@@ -100,12 +97,12 @@ module _ (l : Listing) (window out : List ℕ) (at : ℕ) (right : Bounded l) (l
     pub goes_none : (q e : ℕ) (out' : List ℕ) → first all ≡ no_frame q → Puts out at (no_text 13 (l.before + q)) e out'
         → Goes l (Symbol v) window out at (stopped l e) (set window l.count v) out'
     unfolding on_symbol
-    goes_none q e out' is p = stops-with (no_text 13 (l.before + q)) e out' (by_first (no_frame q) is) (no_short 13 (l.before + q)) p
+    goes_none q e out' is p = stops_with (no_text 13 (l.before + q)) e out' (by_first (no_frame q) is) (no_short 13 (l.before + q)) p
 
     pub goes_wrong : (q e : ℕ) (out' : List ℕ) → first all ≡ wrong_crc q → Puts out at (no_text 15 (l.before + q)) e out'
         → Goes l (Symbol v) window out at (stopped l e) (set window l.count v) out'
     unfolding on_symbol
-    goes_wrong q e out' is p = stops-with (no_text 15 (l.before + q)) e out' (by_first (wrong_crc q) is) (no_short 15 (l.before + q)) p
+    goes_wrong q e out' is p = stops_with (no_text 15 (l.before + q)) e out' (by_first (wrong_crc q) is) (no_short 15 (l.before + q)) p
 
   -- ---- any other form of the text
 
@@ -138,16 +135,16 @@ module _ (l : Listing) (window out : List ℕ) (at : ℕ) (right : Bounded l) (l
         counts = omega arith;
       }
 
-  -- neither a symbol nor broken: all of a scan's variants but 2 and 5
-  pub goes_on : (to : Scan) → OneOf (0 ∷ 1 ∷ 3 ∷ 4 ∷ []) (tag_of the_type to)
+  -- neither a symbol nor broken
+  pub goes_on : (to : Scan) → ((v : ℕ) → to ≡ Symbol v → ⊥) → (to ≡ Broken → ⊥)
       → Goes l to window out at (record { listing = record { scan = to; before = l.before; count = l.count }; ends = false; at = at }) window out
   unfolding step_to window_after
-  goes_on Begin h = on Begin refl refl
-  goes_on (Digit a) h = on (Digit a) refl refl
-  goes_on (Symbol v) h = absurd (miss (0 ∷ 1 ∷ 3 ∷ 4 ∷ []) 2 tt h)
-  goes_on Line h = on Line refl refl
-  goes_on Space h = on Space refl refl
-  goes_on Broken h = absurd (miss (0 ∷ 1 ∷ 3 ∷ 4 ∷ []) 5 tt h)
+  goes_on Begin s b = on Begin refl refl
+  goes_on (Digit a) s b = on (Digit a) refl refl
+  goes_on (Symbol v) s b = absurd (s v refl)
+  goes_on Line s b = on Line refl refl
+  goes_on Space s b = on Space refl refl
+  goes_on Broken s b = absurd (b refl)
 
 -- ---- the same step by another name, and the same outcome
 

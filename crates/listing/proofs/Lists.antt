@@ -55,9 +55,9 @@ told : ℕ → List ℕ → ReadText → List ℕ
 told p w r = walk_text r.kept p (walk (w ++ r.symbols))
 
 module _ (p : ℕ) (l : List ℕ) where
-  told-frame : (r : ReadText) (s : ReadFrame) → first l ≡ frame s → length (drawn s.shape) ≡ length l → told p l r ≡ frame_text p s ++ told (p + length l) [] r
+  told_frame : (r : ReadText) (s : ReadFrame) → first l ≡ frame s → length (drawn s.shape) ≡ length l → told p l r ≡ frame_text p s ++ told (p + length l) [] r
   unfolding told
-  told-frame r s e is =
+  told_frame r s e is =
       ap (walk_text r.kept p) (walk_frame l r.symbols s e is)
       ∙ text_before r.kept p s (walk r.symbols)
       ∙ ap (λ (n : ℕ). frame_text p s ++ walk_text r.kept (p + n) (walk r.symbols)) is
@@ -67,26 +67,26 @@ module _ (p : ℕ) (l : List ℕ) where
   told_none r q e =
       ap (walk_text r.kept p) (walk_none l r.symbols q e) ∙ text_ends r.kept p (l ++ r.symbols) (no_frame q)
 
-  told-wrong : (r : ReadText) (q : ℕ) → first l ≡ wrong_crc q → told p l r ≡ no_text 15 (p + q)
+  told_wrong : (r : ReadText) (q : ℕ) → first l ≡ wrong_crc q → told p l r ≡ no_text 15 (p + q)
   unfolding told last_text
-  told-wrong r q e =
+  told_wrong r q e =
       ap (walk_text r.kept p) (walk_wrong l r.symbols q e) ∙ text_ends r.kept p (l ++ r.symbols) (wrong_crc q)
 
-  told-short : (kept : Bool) (q : ℕ) → first l ≡ too_short q → told p l (record { symbols = []; kept = kept }) ≡ short_text kept p (length l)
+  told_short : (kept : Bool) (q : ℕ) → first l ≡ too_short q → told p l (record { symbols = []; kept = kept }) ≡ short_text kept p (length l)
   unfolding told last_text
-  told-short kept q e =
+  told_short kept q e =
       ap (λ (x : List ℕ). walk_text kept p (walk x)) (append-nil l)
       ∙ ap (walk_text kept p) (walk_short l q e)
       ∙ text_ends kept p l (too_short q)
 
-  told-broken : (q : ℕ) → first l ≡ too_short q → told p l broken ≡ bad_octet_text (p + length l + 1)
+  told_broken : (q : ℕ) → first l ≡ too_short q → told p l broken ≡ bad_octet_text (p + length l + 1)
   unfolding broken short_text
-  told-broken q e = told-short false q e
+  told_broken q e = told_short false q e
 
   -- the first symbol to come is as good as known
-  told-last : (v : ℕ) (r : ReadText) → told p (l ++ (v ∷ [])) r ≡ told p l (with_last (Symbol v) r)
+  told_last : (v : ℕ) (r : ReadText) → told p (l ++ (v ∷ [])) r ≡ told p l (with_last (Symbol v) r)
   unfolding told with_last
-  told-last v r = ap (λ (x : List ℕ). walk_text r.kept p (walk x)) (append_snoc l v r.symbols)
+  told_last v r = ap (λ (x : List ℕ). walk_text r.kept p (walk x)) (append_snoc l v r.symbols)
 
 -- ---- a character
 
@@ -113,31 +113,31 @@ module _ (input : List ℕ) (rest : Lists input) (p : ℕ) (w : List ℕ) (q : �
     abbrev coming : ReadText
     coming = to_come (Symbol v) input
 
-    on-symbol : (f : First) → first known ≡ f → all (on_symbol (Symbol v) p known f) ≡ told p known coming
+    by_symbol : (f : First) → first known ≡ f → all (on_symbol (Symbol v) p known f) ≡ told p known coming
     unfolding all then_all on_symbol
-    on-symbol (frame s) f =
+    by_symbol (frame s) f =
         ap (λ (t : List ℕ). frame_text p s ++ t) (rest (record { scan = Symbol v; before = p + length known; symbols = [] }) 0 nothing)
-        ∙ sym (told-frame p known coming s f (frame_all w v q s e f))
-    on-symbol (no_frame n) f = sym (told_none p known coming n f)
-    on-symbol (too_short n) f = rest (record { scan = Symbol v; before = p; symbols = known }) n f
-    on-symbol (wrong_crc n) f = sym (told-wrong p known coming n f)
+        ∙ sym (told_frame p known coming s f (frame_all w v q s e f))
+    by_symbol (no_frame n) f = sym (told_none p known coming n f)
+    by_symbol (too_short n) f = rest (record { scan = Symbol v; before = p; symbols = known }) n f
+    by_symbol (wrong_crc n) f = sym (told_wrong p known coming n f)
 
-  on-char : (t : Scan) → all (step_to t p w) ≡ told p w (with_last t (to_come t input))
+  on_char : (t : Scan) → all (step_to t p w) ≡ told p w (with_last t (to_come t input))
   unfolding all then_all step_to with_last to_come
-  on-char Begin = goes_on Begin
-  on-char (Digit a) = goes_on (Digit a)
-  on-char (Symbol v) = on-symbol v (first (w ++ (v ∷ []))) refl ∙ told-last p w v (to_come (Symbol v) input)
-  on-char Line = goes_on Line
-  on-char Space = goes_on Space
-  on-char Broken = sym (told-broken p w q e)
+  on_char Begin = goes_on Begin
+  on_char (Digit a) = goes_on (Digit a)
+  on_char (Symbol v) = by_symbol v (first (w ++ (v ∷ []))) refl ∙ told_last p w v (to_come (Symbol v) input)
+  on_char Line = goes_on Line
+  on_char Space = goes_on Space
+  on_char Broken = sym (told_broken p w q e)
 
 lists : (input : List ℕ) → Lists input
 unfolding printed_from end_text character_step all
 lists [] s q e =
-    sym (told-short s.before s.symbols (input_may_end s.scan) q e)
+    sym (told_short s.before s.symbols (input_may_end s.scan) q e)
     ∙ ap (told s.before s.symbols) (sym (come_end s.scan))
 lists (c ∷ input) s q e =
-    on-char input (lists input) s.before s.symbols q e (form_after s.scan c)
+    on_char input (lists input) s.before s.symbols q e (form_after s.scan c)
     ∙ ap (told s.before s.symbols) (sym (come_on s.scan c input))
 
 -- ---- 1. Character by character, all of an input is listed

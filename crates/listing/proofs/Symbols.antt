@@ -28,8 +28,8 @@ module _ (l : Listing) (window out : List ℕ) (at : ℕ) (right : Bounded l) (l
   abbrev all : List ℕ
   all = take l.count window ++ (v ∷ [])
 
-  of-all : Reads all 0 lent a octets
-  of-all = subst (λ (w : List ℕ). Reads w 0 lent a octets) (one_more l.count v window (omega (arith, right.few))) reads
+  of_all : Reads all 0 lent a octets
+  of_all = subst (λ (w : List ℕ). Reads w 0 lent a octets) (one_more l.count v window (omega (arith, right.few))) reads
 
   roomed : octet_room ≤ length lent
   roomed = omega arith
@@ -38,7 +38,7 @@ module _ (l : Listing) (window out : List ℕ) (at : ℕ) (right : Bounded l) (l
   Ends r out' = Goes l (Symbol v) window out at r (set window l.count v) out'
 
   pub frame_fits : (k : ℕ) (exact : Bool) (n : ℕ) (c : Cursor) → a ≡ Frame k exact n c → n ≤ length octets
-  frame_fits k exact n c e = count_fits all lent octets a roomed of-all k exact n c e
+  frame_fits k exact n c e = count_fits all lent octets a roomed of_all k exact n c e
 
   pub frame_few : (k : ℕ) (exact : Bool) (n : ℕ) (c : Cursor) → a ≡ Frame k exact n c → length (take n octets) ≤ 34
   frame_few k exact n c e = let h = frame_fits k exact n c e in omega (arith, length-take-le n octets h)
@@ -46,25 +46,25 @@ module _ (l : Listing) (window out : List ℕ) (at : ℕ) (right : Bounded l) (l
   pub answers_frame : (k : ℕ) (exact : Bool) (n : ℕ) (c : Cursor) (e : ℕ) (out' : List ℕ) → a ≡ Frame k exact n c → Puts out at (frame_text l.before (record { shape = record { kind = k; octets = take n octets }; exact = exact })) e out'
       → Ends (record { listing = record { scan = Symbol v; before = l.before + l.count + 1; count = 0 }; ends = false; at = e }) out'
   answers_frame k exact n c e out' is p =
-      goes_frame l window out at right long roomy v (record { shape = record { kind = k; octets = take n octets }; exact = exact }) e out' (is_frame all lent octets a roomed of-all k exact n c is) (frame_few k exact n c is) p
+      goes_frame l window out at right long roomy v (record { shape = record { kind = k; octets = take n octets }; exact = exact }) e out' (is_frame all lent octets a roomed of_all k exact n c is) (frame_few k exact n c is) p
 
   pub answers_short : (q : ℕ) → a ≡ TooShort q
       → Ends (record { listing = record { scan = Symbol v; before = l.before; count = l.count + 1 }; ends = false; at = at }) out
-  answers_short q is = goes_short l window out at right long roomy v q (is_short all lent octets a roomed of-all q is)
+  answers_short q is = goes_short l window out at right long roomy v q (is_short all lent octets a roomed of_all q is)
 
   pub none_fits : (q : ℕ) → a ≡ NoFrame q → l.before + q < 2 ^ 64
   none_fits q is =
-      omega (arith, none_place all q (is_none all lent octets a roomed of-all q is), all_long l window out at right long roomy v, right.fits)
+      omega (arith, none_place all q (is_none all lent octets a roomed of_all q is), all_long l window out at right long roomy v, right.fits)
 
   pub answers_none : (q e : ℕ) (out' : List ℕ) (r : Fed) → a ≡ NoFrame q → Puts out at (no_text 13 (l.before + q)) e out' → r ≡ stopped l e → Ends r out'
-  answers_none q e out' r is p g = gives g (goes_none l window out at right long roomy v q e out' (is_none all lent octets a roomed of-all q is) p)
+  answers_none q e out' r is p g = gives g (goes_none l window out at right long roomy v q e out' (is_none all lent octets a roomed of_all q is) p)
 
   pub wrong_fits : (q : ℕ) → a ≡ WrongCrc q → l.before + q < 2 ^ 64
   wrong_fits q is =
-      omega (arith, wrong_crc_place all q (is_wrong all lent octets a roomed of-all q is), all_long l window out at right long roomy v, right.fits)
+      omega (arith, wrong_crc_place all q (is_wrong all lent octets a roomed of_all q is), all_long l window out at right long roomy v, right.fits)
 
   pub answers_wrong : (q e : ℕ) (out' : List ℕ) (r : Fed) → a ≡ WrongCrc q → Puts out at (no_text 15 (l.before + q)) e out' → r ≡ stopped l e → Ends r out'
-  answers_wrong q e out' r is p g = gives g (goes_wrong l window out at right long roomy v q e out' (is_wrong all lent octets a roomed of-all q is) p)
+  answers_wrong q e out' r is p g = gives g (goes_wrong l window out at right long roomy v q e out' (is_wrong all lent octets a roomed of_all q is) p)
 
   pub never_small : a ≡ SmallBuffer → ⊥
-  never_small is = not_small all lent octets a roomed of-all is
+  never_small is = not_small all lent octets a roomed of_all is

@@ -5,7 +5,7 @@ ghost use Rattle.listing.specs.Scans.{first_digit, second_digit, gap, form_after
 use text::hex::{is_hex, octet_of};
 
 // What the text read so far ends with: nothing yet, the first digit of a symbol, a symbol, one LF or one space behind it.
-#[derive(Drop)]
+#[derive(Clone, Copy)]
 pub enum Scan {
     Begin,
     Digit(u8),

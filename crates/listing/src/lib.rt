@@ -1,4 +1,6 @@
 // What is on a line: the text of a record, character by character, to a line of text for each frame in it.
+#![tactic(auto)]
+
 use line::read::{Answer, Cursor, read_frame};
 use text::put::has_room;
 
@@ -22,7 +24,7 @@ pub const FRAME_LINE_ROOM: usize = 126;
 const WINDOW_ROOM: usize = 73;
 
 // What is held of an input: its form so far, the place of the symbols that no frame has yet, and how many these are. They stand at the beginning of the window.
-#[derive(Drop)]
+#[derive(Clone, Copy)]
 pub struct Listing {
     scan: Scan,
     before: usize,

@@ -1,6 +1,8 @@
 // A reader that holds its record and its place in it, thin over the line reader's cursor (01, 'Line reader').
 //
 // No public function has a `requires`: whatever a caller passes is answered. specs/ says what each answer is.
+#![tactic(auto)]
+
 ghost use Rattle.reader.specs.Step.{Steps, Starts, Nexts, IsPlace, IsUnread};
 
 use line::read::{Answer, Cursor};
