@@ -1,14 +1,17 @@
 // What is on this line? Standard input, a record, to standard output, a line of text for each frame in it.
+#![tactic(auto)]
+
 ghost use Rattle.std.specs.Prelude.{◌≡◌, true, ◌≤◌, ◌<◌, length};
 ghost use Rattle.text.specs.Put.{has_room};
 ghost use Rattle.listing.specs.Lines.{frame_line_room};
 ghost use Rattle.stream.specs.Ready.{Ready};
 
 use listing::{FRAME_LINE_ROOM, Listing, feed, finish};
+use std::io::{Print, Stdin, Stdout};
 use stream::{Input, Stream, fill, room, stepped};
 
 // Between characters: the stream, and what is held of the record.
-#[derive(Drop)]
+#[derive(Clone, Copy)]
 pub struct Run {
     stream: Stream,
     listing: Listing,
@@ -50,14 +53,21 @@ fn take(
 }
 
 // One character, or the end of the input.
-fn one(run: Run, buf: &mut [u8; 65536], window: &mut [u8; 73], out: &mut [u8]) -> Run
+fn one(
+    stdin: Stdin,
+    stdout: Stdout,
+    run: Run,
+    buf: &mut [u8; 65536],
+    window: &mut [u8; 73],
+    out: &mut [u8],
+) -> Run
     requires { Ready run.stream × (length out.old ≡ 65536) }
     ensures { Ready result.stream }
 {
     let listing = run.listing;
     let before = run.stream;
-    let filled = fill(before, buf, out);
-    let stream = room(filled, FRAME_LINE_ROOM, out);
+    let filled = fill(stdin, stdout, before, buf, out);
+    let stream = room(stdout, filled, FRAME_LINE_ROOM, out);
     let input = stream.input;
     if input.at < input.end {
         return take(stream, listing, buf, window, out);
@@ -66,7 +76,13 @@ fn one(run: Run, buf: &mut [u8; 65536], window: &mut [u8; 73], out: &mut [u8]) -
 }
 
 // Each character in turn; how much is printed and not yet written. A proved loop has to end and no input need: 2 to the power of 64 characters are never read.
-fn all(buf: &mut [u8; 65536], window: &mut [u8; 73], out: &mut [u8]) -> usize
+fn all(
+    stdin: Stdin,
+    stdout: Stdout,
+    buf: &mut [u8; 65536],
+    window: &mut [u8; 73],
+    out: &mut [u8],
+) -> usize
     requires { length out.old ≡ 65536 }
     ensures { result ≤ 65536 }
 {
@@ -75,7 +91,7 @@ fn all(buf: &mut [u8; 65536], window: &mut [u8; 73], out: &mut [u8]) -> usize
     let mut run = Run { stream, listing };
     let mut taken = 0;
     while taken < usize::MAX {
-        run = one(run, buf, window, out);
+        run = one(stdin, stdout, run, buf, window, out);
         taken += 1;
         let stream = run.stream;
         if !stream.on {
@@ -85,10 +101,11 @@ fn all(buf: &mut [u8; 65536], window: &mut [u8; 73], out: &mut [u8]) -> usize
     run.stream.used
 }
 
-fn main() {
+fn main(rt: HostRuntime) {
+    let stdout = rt.stdout();
     let mut buf = [0u8; 65536];
     let mut out = [0u8; 65536];
     let mut window = [0u8; 73];
-    let used = all(&mut buf, &mut window, &mut out);
-    io::write_all(1, &out[..used]);
+    let used = all(rt.stdin(), stdout, &mut buf, &mut window, &mut out);
+    let _ = stdout.write_all(&out[..used]);
 }
