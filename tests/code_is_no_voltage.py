@@ -18,7 +18,7 @@ EDITS = {
     'the register for the reference': ('voltage.above(MdacCode::of(measure).on_cc())', 'voltage.above(measure)',
                                        'expected `Millivolts`, found `u8`'),
     'the register for the code': ('MdacCode::of(measure).on_vbus()', 'measure.on_vbus()',
-                                  'the method call `.on_vbus()` on type `u8`'),
+                                  'no method named `on_vbus` found for type `u8`'),
     'a voltage for the code': ('MdacCode::of(measure).on_vbus()', 'vbus.on_vbus()', 'no method named `on_vbus` found for type `Millivolts`'),
     'a bare number for a threshold': ('vbus.above(VBUS_THRESHOLD)', 'vbus.above(4000)', 'expected `Millivolts`, found an integer'),
 }
@@ -27,13 +27,13 @@ EDITS = {
 def said_of(text):
     with open(os.path.join(SCRATCH, PINS), 'w', encoding='utf-8') as file:
         file.write(text)
-    run = subprocess.run(['rt', 'check', 'fusb302'], cwd=SCRATCH, capture_output=True, text=True)
+    run = subprocess.run(['rt', 'check'], cwd=SCRATCH + '/crates/fusb302', capture_output=True, text=True)
     return run.returncode, run.stdout + run.stderr
 
 
 def main():
     shutil.rmtree(SCRATCH, ignore_errors=True)
-    for folder in ('crates/line', 'crates/machine', 'crates/fusb302', 'target/rlib', 'target/stamp'):
+    for folder in ('crates/line', 'crates/machine', 'crates/fusb302'):
         shutil.copytree(folder, os.path.join(SCRATCH, folder))
     with open(SCRATCH + '/crates.txt', 'w', encoding='utf-8') as crates:
         crates.write('line:\nmachine: line\nfusb302: machine line\n')

@@ -21,18 +21,18 @@ SCRATCH = 'target/tests/machine'
 
 HEAD = '''-- Histories, with what another program answers.
 -- Assumes nothing.
-use mathlib.Core.Path.{_≡_, refl}
+use mathlib.Core.Path.{◌≡◌, refl}
 use mathlib.Core.Bool.{Bool, true, false}
-use mathlib.Core.List.{List, [], _∷_}
+use mathlib.Core.List.{List, [], ◌∷◌}
 use mathlib.Core.Option.{Option, none, some}
 use Prim.Native.Nat.{ℕ}
-use Rattle·line.specs.Frame.{joined}
-use Rattle·machine·specs.specs.State.{State, powerUp}
-use Rattle·machine·specs.specs.Status.{intLow}
-use Rattle·machine·specs.specs.Events.{Event, write, read, pass, hardReset, packet, sense, Reply, done, value, no}
-use Rattle·machine·specs.specs.Step.{step}
-use Rattle·machine·specs.specs.Why.{Reason, refused, kindOff, crcWrong, noRoom, isGoodCrc, autoCrcOff, autoPreOn, driverOff, firstCause, why}
-use Rattle·machine·proofs.proofs.Computing.{computed}
+use Rattle.line.specs.Frame.{joined}
+use Rattle.machine.specs.State.{State, power_up}
+use Rattle.machine.specs.Status.{int_low}
+use Rattle.machine.specs.Events.{Event, write, read, pass, hard_reset, packet, sense, Reply, done, value, no}
+use Rattle.machine.specs.Step.{step}
+use Rattle.machine.specs.Why.{Reason, refused, kind_off, crc_wrong, no_room, is_good_crc, auto_crc_off, auto_pre_on, driver_off, first_cause, why}
+use Rattle.machine.proofs.Computing.{computed}
 
 pub record Seen : Type 0 where
   pub reply : Reply
@@ -47,19 +47,19 @@ asked : State → Event → Option (Option Reason)
 asked s (write r a v) = none
 asked s (read r a) = none
 asked s (pass r n) = none
-asked s (hardReset r) = none
+asked s (hard_reset r) = none
 asked s (packet r k m) = some (why s k m)
 asked s (sense r x y z) = none
 
 seen : State → List Event → List Seen
 seen s [] = []
 seen s (e ∷ es) =
-    o (step s e .reply) (intLow (step s e .state)) (joined (step s e .frames)) (asked s e) ∷ seen (step s e .state) es
+    o (step s e).reply (int_low (step s e).state) (joined (step s e).frames) (asked s e) ∷ seen (step s e).state es
 '''
 
 REASONS = {
-    'refused 11': 'refused 11', 'refused 9': 'refused 9', 'kind off': 'kindOff', 'CRC wrong': 'crcWrong', 'no room': 'noRoom',
-    'it is a GoodCRC': 'isGoodCrc', 'AUTO_CRC off': 'autoCrcOff', 'AUTO_PRE on': 'autoPreOn', 'driver off': 'driverOff',
+    'refused 11': 'refused 11', 'refused 9': 'refused 9', 'kind off': 'kind_off', 'CRC wrong': 'crc_wrong', 'no room': 'no_room',
+    'it is a GoodCRC': 'is_good_crc', 'AUTO_CRC off': 'auto_crc_off', 'AUTO_PRE on': 'auto_pre_on', 'driver off': 'driver_off',
 }
 
 
@@ -75,7 +75,7 @@ def as_term(event):
     if event[0] == 't':
         return 'pass 73 %d' % event[1]
     if event[0] == 'h':
-        return 'hardReset 73'
+        return 'hard_reset 73'
     if event[0] == 'v':
         return 'sense 73 %d %d %d' % event[1:]
     return 'packet 73 %d (%s)' % (event[1], listed(map(str, event[2])))
@@ -110,7 +110,7 @@ def theorem(number, peer, events):
     assert len(lines) == len(events), 'the peer refused its input'
     told = dict(line.split(' ', 1) for line in said(peer, 'why', text=text))
     seen = [as_seen(line, told.get(str(at))) for at, line in enumerate(lines, 3)]
-    return '\nt%d : seen powerUp (%s) ≡ %s\nunfolding computed intLow asked why firstCause seen\nt%d = refl\n' % (
+    return '\nt%d : seen power_up (%s) ≡ %s\nunfolding computed int_low asked why first_cause seen\nt%d = refl\n' % (
         number, listed(map(as_term, events)), listed(seen), number)
 
 
@@ -123,8 +123,8 @@ def main():
         named['random history %d of seed %d' % (number, seed)] = maker.history(length)
     names = list(named)
     shutil.rmtree(SCRATCH, ignore_errors=True)
-    os.makedirs(SCRATCH + '/target')
-    for folder in ('crates/line', 'crates/machine', 'target/rlib', 'target/stamp'):
+    os.makedirs(SCRATCH)
+    for folder in ('crates/line', 'crates/machine'):
         shutil.copytree(folder, os.path.join(SCRATCH, folder))
     with open(SCRATCH + '/crates.txt', 'w', encoding='utf-8') as crates:
         crates.write('line:\nmachine: line\n')
@@ -134,7 +134,7 @@ def main():
             tried.write(theorem(number, peer, named[name]))
     with open(SCRATCH + '/crates/machine/proofs/Lib.antt', 'a', encoding='utf-8') as lib:
         lib.write('pub mod Tried\n')
-    run = subprocess.run(['rt', 'check', 'machine'], cwd=SCRATCH, capture_output=True, text=True)
+    run = subprocess.run(['rt', 'check'], cwd=SCRATCH + '/crates/machine', capture_output=True, text=True)
     if run.returncode != 0:
         report = run.stdout + run.stderr
         wrong = re.search(r'Tried\.antt[^\n]*`t(\d+)`', report)
