@@ -1,4 +1,6 @@
 // A line of the bench's input, whole: parsed, done by the device, and what there is to tell of it printed.
+#![tactic(auto)]
+
 ghost use Rattle.std.specs.Prelude.{◌≡◌, true, ◌≤◌, length};
 ghost use Rattle.text.specs.Put.{has_room, Prints};
 ghost use Rattle.fusb302.specs.View.{view, Asks};
