@@ -121,12 +121,12 @@ module _ (l before : List ℕ) where
         is_reset z = by (some (hard_reset frame_room)) (rw (w, r, z) refl) (record { says = refl; leaves = refl })
 
         module _ (z : fits (text "h") l ≡ false) where
-          short-line : (m : List ℕ) → length m ≡ 2 → length l < 2 → fits m (take 2 l) ≡ false
-          short-line m k g = sym (lengths_differ m (take 2 l) (λ e. omega (arith, length-take 2 l)))
+          short_line : (m : List ℕ) → length m ≡ 2 → length l < 2 → fits m (take 2 l) ≡ false
+          short_line m k g = sym (lengths_differ m (take 2 l) (λ e. omega (arith, length-take 2 l)))
 
           pub tiny : length l < 2 → Parses (event_of l) before Bad before
           unfolding form_of
-          tiny g = bad (rw (w, r, z, short-line (text "t ") refl g, short-line (text "p ") refl g, short-line (text "v ") refl g) refl)
+          tiny g = bad (rw (w, r, z, short_line (text "t ") refl g, short_line (text "p ") refl g, short_line (text "v ") refl g) refl)
 
           pub is_time : (x : Line) → fits (text "t ") (take 2 l) ≡ true → x ≡ line_of (timed (count_of (take (length l - 2) (drop 2 l)))) → Parses (event_of l) before x before
           unfolding form_of

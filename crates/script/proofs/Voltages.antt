@@ -58,9 +58,9 @@ module _ (s : List ℕ) (n : ℕ) (en : n ≡ digits_in s) where
     abbrev t : List ℕ
     t = take (length s - (n + 1)) (drop (n + 1) s)
 
-    behind-it : next_part s ≡ t
+    behind_it : next_part s ≡ t
     unfolding next_part
-    behind-it = rw (← en) (sym (rest s (n + 1)))
+    behind_it = rw (← en) (sym (rest s (n + 1)))
 
     module _ (m : ℕ) (em : m ≡ digits_in t) where
       last : next_part t ≡ take (length t - (m + 1)) (drop (m + 1) t)
@@ -69,9 +69,9 @@ module _ (s : List ℕ) (n : ℕ) (en : n ≡ digits_in s) where
 
       pub no_third : eqb (get_or t m 0) 0x20 ≡ false → voltages_of s ≡ none
       unfolding voltages_of is_spaced
-      no_third k = rw (behind-it, ← em, k, and-false) refl
+      no_third k = rw (behind_it, ← em, k, and-false) refl
 
       pub three : eqb (get_or t m 0) 0x20 ≡ true
           → voltages_of s ≡ sensed (millivolts_of (take n s)) (millivolts_of (take m t)) (millivolts_of (take (length t - (m + 1)) (drop (m + 1) t)))
       unfolding voltages_of is_spaced number_part
-      three k = rw (behind-it, ← en, ← em, h, k, last) refl
+      three k = rw (behind_it, ← en, ← em, h, k, last) refl

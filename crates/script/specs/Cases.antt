@@ -11,7 +11,7 @@ use Rattle.script.specs.Text.{octet_at, suits, fits, is_digit, all_digits, is_de
 use Rattle.script.specs.Parse.{count_of, number_part, rest_part, packet_of, millivolts_of, is_spaced, next_part, voltages_of, form_of, event_of, setup_of}
 use Rattle.script.specs.Print.{reply_text, outcome_text, bad_line_text, reason_text, why_text}
 
-pub in-form :
+pub in_form :
     (count_of (text "2") ≡ some 2)
     × (setup_of (text "06 04") ≡ some (write 73 0x06 0x04))
     × (event_of (text "w 09 46") ≡ some (write 73 0x09 0x46))
@@ -23,7 +23,7 @@ pub in-form :
     × (event_of (text "v 0 1230 65535") ≡ some (sense 73 0 1230 65535))
     × (event_of (text "v 0000200 7 4000") ≡ some (sense 73 200 7 4000))
 unfolding is_hex hex_value octet_of octet_at suits fits is_digit all_digits is_decimal onto value_of digits_in is_octet are_octets octets_in count_of number_part rest_part packet_of millivolts_of is_spaced next_part voltages_of form_of event_of setup_of
-in-form = (refl, refl, refl, refl, refl, refl, refl, refl, refl, refl)
+in_form = (refl, refl, refl, refl, refl, refl, refl, refl, refl, refl)
 
 pub out_of_form :
     (count_of (text "12345678") ≡ none)

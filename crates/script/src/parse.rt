@@ -7,7 +7,7 @@ ghost use Rattle.script.specs.Parse.{count_of, timed, packet_of, millivolts_of, 
 use text::hex::{is_hex, octet_of};
 
 // What a line says; a packet's octets stand beside it, at the beginning of those lent.
-#[derive(Drop)]
+#[derive(Clone, Copy)]
 pub enum Line {
     Write(u8, u8),
     Read(u8),

@@ -37,7 +37,7 @@ use Rattle.script.proofs.Texts.{short, reason_short}
 use Rattle.turn.specs.declared.Tells.{Tells}
 use Rattle.turn.specs.declared.Tells.TheVariants.{Outcomes, Reasons}
 use Rattle.turn.specs.declared.Turned.{Turned}
-use Rattle.turn.specs.Turn.{meant_by, missing, left_by, sent_by, result_text, reason_text_of, text_of, TakesLine, Lent, event_for, heard_of, is_bad, ServesLine, TellsReason, TellsOutcome, Acts}
+use Rattle.turn.specs.Turn.{meant_by, missing, left_by, sent_by, result_text, reason_text_of, text_of, told_text, TakesLine, TakesLineTelling, Lent, event_for, heard_of, is_bad, ServesLine, TellsReason, TellsOutcome, Acts, ActsTelling}
 
 -- ---- a line's event is lent room for one frame
 
@@ -272,14 +272,14 @@ module _ (t : Tells) (d : Device) (line : Line) (number : ℕ) (os symbols out :
   behind = leb-true (at + bench_line_room) (length out) roomy
 
   pub acts_bad : Asks d → is_bad line ≡ true → PrintsBad number out at end out'
-      → Acts t d (event_for line os) number symbols out at (record { device = d; ends = true; at = end }) symbols out'
-  unfolding text_of left_by sent_by joined
+      → ActsTelling t d (event_for line os) number symbols out at (record { device = d; ends = true; at = end }) symbols out'
+  unfolding told_text left_by sent_by joined
   acts_bad asks bad p = go (event_for line os) (missing_is line os ∙ bad)
     where
       printed : Puts out at (bad_line_text number) end out'
       printed = is_printed roomy p
 
-      go : (o : Option Event) → missing o ≡ true → Acts t d o number symbols out at (record { device = d; ends = true; at = end }) symbols out'
+      go : (o : Option Event) → missing o ≡ true → ActsTelling t d o number symbols out at (record { device = d; ends = true; at = end }) symbols out'
       go (some e) m = absurd (true≢false (sym m))
       go none m =
           record {
@@ -292,22 +292,22 @@ module _ (t : Tells) (d : Device) (line : Line) (number : ℕ) (os symbols out :
           }
 
   module _ (symbols' : List ℕ) (o : Outcome) (lent : length symbols ≡ 73) (kept : length symbols' ≡ 73) (high : Bool) (level : high ≡ not (int_low (view o.device))) where
-    text-is : (e : Event) (h : Serves e d symbols o symbols')
+    text_is : (e : Event) (h : Serves e d symbols o symbols')
         → outcome_text (replied o.reply) high (take o.count symbols')
         ≡ outcome_text (step (view d) e).reply (not (int_low (step (view d) e).state)) (joined (step (view d) e).frames)
-    text-is e h =
+    text_is e h =
         ap₂ (λ (r : Reply) (b : Bool). outcome_text r b (take o.count symbols')) h.reply (level ∙ ap (λ (s : State). not (int_low s)) h.state)
         ∙ ap (outcome_text (step (view d) e).reply (not (int_low (step (view d) e).state))) (served_symbols h)
 
     -- the text and where it ends
     record Told (u : Tells) (e : Event) : Type 0 where
-      prints : Puts out at (text_of u (view d) (some e) number) end out'
+      prints : Puts out at (told_text u (view d) (some e) number) end out'
       fits : end ≤ length out
 
-    outcome-told : (e : Event) → Serves e d symbols o symbols'
+    outcome_told : (e : Event) → Serves e d symbols o symbols'
         → PrintsOutcome (replied o.reply) high (take o.count symbols') out at end out' → Told Outcomes e
-    unfolding text_of result_text
-    outcome-told e h p =
+    unfolding told_text result_text
+    outcome_told e h p =
         let few = counts d e symbols o symbols' h (kept ∙ sym lent) in
         let long = length-take-le o.count symbols' (omega arith) in
         let fine = le-leb (length (take o.count symbols')) frame_room (omega arith) in
@@ -315,11 +315,11 @@ module _ (t : Tells) (d : Device) (line : Line) (number : ℕ) (os symbols out :
         let n = printed.next in
         let b = outcome_few (replied o.reply) high (take o.count symbols') (omega arith) in
         let r = behind in
-        record { prints = subst (λ (x : List ℕ). Puts out at x end out') (text-is e h) printed; fits = omega arith }
+        record { prints = subst (λ (x : List ℕ). Puts out at x end out') (text_is e h) printed; fits = omega arith }
 
-    reason-told : (e : Event) → Prints (has_room bench_line_room out at) out at (reason_text_of (view d) (some e) number) end out' → Told Reasons e
-    unfolding text_of
-    reason-told e p =
+    reason_told : (e : Event) → Prints (has_room bench_line_room out at) out at (reason_text_of (view d) (some e) number) end out' → Told Reasons e
+    unfolding told_text
+    reason_told e p =
         let printed = is_printed roomy p in
         let n = printed.next in
         let b = reason_few (view d) (some e) number in
@@ -330,18 +330,18 @@ module _ (t : Tells) (d : Device) (line : Line) (number : ℕ) (os symbols out :
         → TellsReason u (view d) (some e) number out at told between
         → TellsOutcome u (replied o.reply) high (take o.count symbols') between told end out' → Told u e
     unfolding TellsReason TellsOutcome
-    told_of Outcomes e told between h p q = outcome-told e h (rw (p.0, p.1) at q)
-    told_of Reasons e told between h p q = reason-told e (rw (q.0, q.1) p)
+    told_of Outcomes e told between h p q = outcome_told e h (rw (p.0, p.1) at q)
+    told_of Reasons e told between h p q = reason_told e (rw (q.0, q.1) p)
 
     pub acts_done : (told : ℕ) (between : List ℕ) → is_bad line ≡ false → ServesLine (event_for line os) d symbols o symbols'
         → TellsReason t (view d) (event_for line os) number out at told between
         → TellsOutcome t (replied o.reply) high (take o.count symbols') between told end out'
-        → Acts t d (event_for line os) number symbols out at (record { device = o.device; ends = false; at = end }) symbols' out'
+        → ActsTelling t d (event_for line os) number symbols out at (record { device = o.device; ends = false; at = end }) symbols' out'
     unfolding left_by sent_by
     acts_done told between good steps p q = go (event_for line os) (missing_is line os ∙ good) steps p
       where
         go : (x : Option Event) → missing x ≡ false → ServesLine x d symbols o symbols' → TellsReason t (view d) x number out at told between
-            → Acts t d x number symbols out at (record { device = o.device; ends = false; at = end }) symbols' out'
+            → ActsTelling t d x number symbols out at (record { device = o.device; ends = false; at = end }) symbols' out'
         go none m h r = absurd (true≢false m)
         go (some e) m h r =
             let is = told_of t e told between h r q in
@@ -349,19 +349,19 @@ module _ (t : Tells) (d : Device) (line : Line) (number : ℕ) (os symbols out :
 
 -- ---- the whole line
 
-pub takes_none : {b : Bool} (t : Tells) (d : Device) (e : Option Event) (number : ℕ) (before : Lent) (at : ℕ) → b ≡ false
-    → TakesLine b t d e number before at (record { device = d; ends = true; at = at }) before
-unfolding TakesLine
-takes_none t d e number before at h = rw h (refl, refl)
+pub tells_none : {b : Bool} (t : Tells) (d : Device) (e : Option Event) (number : ℕ) (before : Lent) (at : ℕ) → b ≡ false
+    → TakesLineTelling b t d e number before at (record { device = d; ends = true; at = at }) before
+unfolding TakesLineTelling
+tells_none t d e number before at h = rw h (refl, refl)
 
-pub takes_line : {b : Bool} (t : Tells) (d : Device) (setup : Bool) (l : List ℕ) (number : ℕ) (before : Lent) (at : ℕ) (meant : Line) (r : Turned) (after : Lent)
+pub tells_line : {b : Bool} (t : Tells) (d : Device) (setup : Bool) (l : List ℕ) (number : ℕ) (before : Lent) (at : ℕ) (meant : Line) (r : Turned) (after : Lent)
     → b ≡ true → Parses (meant_by setup l) before.octets meant after.octets
-    → Acts t d (event_for meant after.octets) number before.symbols before.out at r after.symbols after.out
-    → TakesLine b t d (meant_by setup l) number before at r after
-unfolding TakesLine
-takes_line t d setup l number before at meant r after roomy p x =
+    → ActsTelling t d (event_for meant after.octets) number before.symbols before.out at r after.symbols after.out
+    → TakesLineTelling b t d (meant_by setup l) number before at r after
+unfolding TakesLineTelling
+tells_line t d setup l number before at meant r after roomy p x =
     let is = parsed_event setup l before.octets meant after.octets p in
-    let acts = subst (λ (e : Option Event). Acts t d e number before.symbols before.out at r after.symbols after.out) is x in
+    let acts = subst (λ (e : Option Event). ActsTelling t d e number before.symbols before.out at r after.symbols after.out) is x in
     rw roomy (record { acts = acts; octets = p.leaves })
 
 -- ---- what was printed lies in what was lent
@@ -371,12 +371,47 @@ bad_within out at n r out' h p =
     ends_inside (has_room bench_line_room out at) h (λ e. omega (arith, leb-true (at + bench_line_room) (length out) e, bad_few n)) p
 
 module _ (t : Tells) (d : Device) (e : Option Event) (number : ℕ) (before : Lent) (at : ℕ) (r : Turned) (after : Lent) where
-  pub turn_asks : (b : Bool) → Asks d → TakesLine b t d e number before at r after → Asks r.device
-  unfolding TakesLine
-  turn_asks true asks h = h.acts.asks
-  turn_asks false asks h = rw h.0 asks
+  pub tell_asks : (b : Bool) → Asks d → TakesLineTelling b t d e number before at r after → Asks r.device
+  unfolding TakesLineTelling
+  tell_asks true asks h = h.acts.asks
+  tell_asks false asks h = rw h.0 asks
 
-  pub turn_within : (b : Bool) → at ≤ length before.out → TakesLine b t d e number before at r after → r.at ≤ length before.out
-  unfolding TakesLine
-  turn_within true h x = x.acts.fits
-  turn_within false h x = rw x.0 h
+  pub tell_within : (b : Bool) → at ≤ length before.out → TakesLineTelling b t d e number before at r after → r.at ≤ length before.out
+  unfolding TakesLineTelling
+  tell_within true h x = x.acts.fits
+  tell_within false h x = rw x.0 h
+
+-- ---- what tells outcomes is the bench's
+
+outcomes_text : (s : State) (e : Option Event) (number : ℕ) → told_text Outcomes s e number ≡ text_of s e number
+unfolding told_text text_of
+outcomes_text s none number = refl
+outcomes_text s (some e) number = refl
+
+module _ (d : Device) (e : Option Event) (number : ℕ) where
+  outcomes_act : {lent out sent out' : List ℕ} {at : ℕ} {r : Turned} → ActsTelling Outcomes d e number lent out at r sent out' → Acts d e number lent out at r sent out'
+  outcomes_act {out = out} {out' = out'} {at = at} {r = r} h =
+      record {
+        ends = h.ends;
+        state = h.state;
+        asks = h.asks;
+        prints = subst (λ (x : List ℕ). Puts out at x r.at out') (outcomes_text (view d) e number) h.prints;
+        fits = h.fits;
+        symbols = h.symbols;
+      }
+
+  module _ (before : Lent) (at : ℕ) (r : Turned) (after : Lent) where
+    pub outcomes_taken : (b : Bool) → TakesLineTelling b Outcomes d e number before at r after → TakesLine b d e number before at r after
+    unfolding TakesLine TakesLineTelling
+    outcomes_taken true h = record { acts = outcomes_act h.acts; octets = h.octets }
+    outcomes_taken false h = h
+
+    pub turn_asks : (b : Bool) → Asks d → TakesLine b d e number before at r after → Asks r.device
+    unfolding TakesLine
+    turn_asks true asks h = h.acts.asks
+    turn_asks false asks h = rw h.0 asks
+
+    pub turn_within : (b : Bool) → at ≤ length before.out → TakesLine b d e number before at r after → r.at ≤ length before.out
+    unfolding TakesLine
+    turn_within true h x = x.acts.fits
+    turn_within false h x = rw x.0 h

@@ -1,4 +1,4 @@
--- No second outcome; proofs/Outcomes.antt has the proof.
+-- No second outcome; proofs/Outcomes.antt has the proofs.
 -- Assumes nothing.
 use Rattle.std.specs.Prelude.{◌≡◌, Bool, ℕ}
 use Rattle.std.proofs.Math.Option.{Option}
@@ -7,7 +7,7 @@ use Rattle.fusb302.specs.declared.device.Device.{Device}
 use Rattle.fusb302.specs.View.{view}
 use Rattle.turn.specs.declared.Tells.{Tells}
 use Rattle.turn.specs.declared.Turned.{Turned}
-use Rattle.turn.specs.Turn.{Lent, TakesLine}
+use Rattle.turn.specs.Turn.{Lent, TakesLine, TakesLineTelling}
 
 -- two outcomes that no caller can tell apart, in what is answered and in all that is lent
 pub record SameTurn (r s : Turned) (a b : Lent) : Type 0 where
@@ -20,5 +20,11 @@ pub record SameTurn (r s : Turned) (a b : Lent) : Type 0 where
 
 abbrev pub OneTurn : Type 0
 OneTurn =
+    (fits : Bool) (d : Device) (e : Option Event) (number : ℕ) (before : Lent) (at : ℕ) (r s : Turned) (a b : Lent)
+    → TakesLine fits d e number before at r a → TakesLine fits d e number before at s b → SameTurn r s a b
+
+-- whatever is told
+abbrev pub OneTelling : Type 0
+OneTelling =
     (fits : Bool) (t : Tells) (d : Device) (e : Option Event) (number : ℕ) (before : Lent) (at : ℕ) (r s : Turned) (a b : Lent)
-    → TakesLine fits t d e number before at r a → TakesLine fits t d e number before at s b → SameTurn r s a b
+    → TakesLineTelling fits t d e number before at r a → TakesLineTelling fits t d e number before at s b → SameTurn r s a b

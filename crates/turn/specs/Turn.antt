@@ -46,6 +46,10 @@ sent_by s (some e) = (step s e).frames
 unfoldable pub result_text : Result → List ℕ
 result_text r = outcome_text r.reply (not (int_low r.state)) (joined r.frames)
 
+unfoldable pub text_of : State → Option Event → ℕ → List ℕ
+text_of s none number = bad_line_text number
+text_of s (some e) number = result_text (step s e)
+
 -- of a packet, why it gets no GoodCRC; of any other event nothing
 unfoldable pub reason_text_of : State → Option Event → ℕ → List ℕ
 reason_text_of s none number = []
@@ -57,10 +61,10 @@ reason_text_of s (some (packet r k m)) number = why_text number (why s k m)
 reason_text_of s (some (sense r x y z)) number = []
 
 -- the bench's, or that of `why`; a line out of form is told of by both
-unfoldable pub text_of : Tells → State → Option Event → ℕ → List ℕ
-text_of t s none number = bad_line_text number
-text_of Outcomes s (some e) number = result_text (step s e)
-text_of Reasons s (some e) number = reason_text_of s (some e) number
+unfoldable pub told_text : Tells → State → Option Event → ℕ → List ℕ
+told_text t s none number = bad_line_text number
+told_text Outcomes s (some e) number = result_text (step s e)
+told_text Reasons s (some e) number = reason_text_of s (some e) number
 
 -- ---- promises
 
@@ -71,23 +75,44 @@ pub record Lent : Type 0 where
   pub symbols : List ℕ
 
 -- a parsed line is done and printed
-pub record Acts (t : Tells) (d : Device) (e : Option Event) (number : ℕ) (lent out : List ℕ) (at : ℕ) (r : Turned) (sent out' : List ℕ) : Type 0 where
+pub record Acts (d : Device) (e : Option Event) (number : ℕ) (lent out : List ℕ) (at : ℕ) (r : Turned) (sent out' : List ℕ) : Type 0 where
   pub ends : r.ends ≡ missing e
   pub state : view r.device ≡ left_by (view d) e
   pub asks : Asks r.device
-  pub prints : Puts out at (text_of t (view d) e number) r.at out'
+  pub prints : Puts out at (text_of (view d) e number) r.at out'
   pub fits : r.at ≤ length out
   pub symbols : sent ≡ overlaid (joined (sent_by (view d) e)) lent
 
 -- a line is taken
-pub record Turns (t : Tells) (d : Device) (e : Option Event) (number : ℕ) (before : Lent) (at : ℕ) (r : Turned) (after : Lent) : Type 0 where
-  pub acts : Acts t d e number before.symbols before.out at r after.symbols after.out
+pub record Turns (d : Device) (e : Option Event) (number : ℕ) (before : Lent) (at : ℕ) (r : Turned) (after : Lent) : Type 0 where
+  pub acts : Acts d e number before.symbols before.out at r after.symbols after.out
   pub octets : after.octets ≡ overlaid (packet_octets e) before.octets
 
 -- or, where its text need not fit, all stays as it stood and the run ends
-unfoldable pub TakesLine : Bool → Tells → Device → Option Event → ℕ → Lent → ℕ → Turned → Lent → Type 0
-TakesLine true t d e number before at r after = Turns t d e number before at r after
-TakesLine false t d e number before at r after = (r ≡ record { device = d; ends = true; at = at }) × (after ≡ before)
+unfoldable pub TakesLine : Bool → Device → Option Event → ℕ → Lent → ℕ → Turned → Lent → Type 0
+TakesLine true d e number before at r after = Turns d e number before at r after
+TakesLine false d e number before at r after = (r ≡ record { device = d; ends = true; at = at }) × (after ≡ before)
+
+-- ---- the same, whatever is told
+
+-- a parsed line is done and told of
+pub record ActsTelling (t : Tells) (d : Device) (e : Option Event) (number : ℕ) (lent out : List ℕ) (at : ℕ) (r : Turned) (sent out' : List ℕ) : Type 0 where
+  pub ends : r.ends ≡ missing e
+  pub state : view r.device ≡ left_by (view d) e
+  pub asks : Asks r.device
+  pub prints : Puts out at (told_text t (view d) e number) r.at out'
+  pub fits : r.at ≤ length out
+  pub symbols : sent ≡ overlaid (joined (sent_by (view d) e)) lent
+
+-- a line is taken
+pub record TurnsTelling (t : Tells) (d : Device) (e : Option Event) (number : ℕ) (before : Lent) (at : ℕ) (r : Turned) (after : Lent) : Type 0 where
+  pub acts : ActsTelling t d e number before.symbols before.out at r after.symbols after.out
+  pub octets : after.octets ≡ overlaid (packet_octets e) before.octets
+
+-- or, where its text need not fit, all stays as it stood and the run ends
+unfoldable pub TakesLineTelling : Bool → Tells → Device → Option Event → ℕ → Lent → ℕ → Turned → Lent → Type 0
+TakesLineTelling true t d e number before at r after = TurnsTelling t d e number before at r after
+TakesLineTelling false t d e number before at r after = (r ≡ record { device = d; ends = true; at = at }) × (after ≡ before)
 
 -- ---- a parsed line, and the octets beside it
 

@@ -1,11 +1,13 @@
 // A line of the bench's input, whole: parsed, done by the device, and what there is to tell of it printed.
+#![tactic(auto)]
+
 ghost use Rattle.std.specs.Prelude.{◌≡◌, true, ◌≤◌, length};
 ghost use Rattle.text.specs.Put.{has_room, Prints};
 ghost use Rattle.fusb302.specs.View.{view, Asks};
 ghost use Rattle.fusb302.specs.Serves.{replied};
 ghost use Rattle.script.specs.Parse.{Parses};
 ghost use Rattle.script.specs.Print.{bench_line_room};
-ghost use Rattle.turn.specs.Turn.{meant_by, event_for, heard_of, is_bad, reason_text_of, ServesLine, TellsReason, TellsOutcome, Acts, TakesLine};
+ghost use Rattle.turn.specs.Turn.{meant_by, event_for, heard_of, is_bad, reason_text_of, ServesLine, TellsReason, TellsOutcome, ActsTelling, TakesLine, TakesLineTelling};
 
 use fusb302::{Device, Millivolts, Outcome, Reply};
 use script::parse::{Line, parse_event, parse_setup};
@@ -13,7 +15,7 @@ use script::print::{BENCH_LINE_ROOM, print_bad, print_outcome, print_why};
 use text::put::has_room;
 
 // What a program tells: of each line its outcome (01, 'On the bench table'), or of each packet why it gets no GoodCRC (02, A5).
-#[derive(Drop)]
+#[derive(Clone, Copy)]
 pub enum Tells {
     Outcomes,
     Reasons,
@@ -146,7 +148,7 @@ fn act(
     at: usize,
 ) -> Turned
     requires { Asks device × (heard_of line ≤ length octets.now) × (length symbols.old ≡ 73) × (has_room bench_line_room out.old at ≡ true) }
-    ensures { Acts tells device (event_for line octets.now) number symbols.old out.old at result symbols.new out.new }
+    ensures { ActsTelling tells device (event_for line octets.now) number symbols.old out.old at result symbols.new out.new }
 {
     if is_bad(line) {
         let end = print_bad(number, out, at);
@@ -170,8 +172,8 @@ fn act(
     }
 }
 
-// Takes a line of the setup, or of the events. Where a line of text need not fit behind `at`, it takes none and the run ends.
-pub fn turn(
+// Takes a line of the setup, or of the events, and tells of it. Where a line of text need not fit behind `at`, it takes none and the run ends.
+pub fn tell(
     tells: Tells,
     device: Device,
     setup: bool,
@@ -183,7 +185,7 @@ pub fn turn(
     at: usize,
 ) -> Turned
     requires { Asks device }
-    ensures { TakesLine (has_room bench_line_room out.entry.now at) tells device (meant_by setup line.now) number (record { out = out.entry.now; octets = octets.old; symbols = symbols.old }) at result (record { out = out.exit.now; octets = octets.new; symbols = symbols.new }) }
+    ensures { TakesLineTelling (has_room bench_line_room out.old at) tells device (meant_by setup line.now) number (record { out = out.old; octets = octets.old; symbols = symbols.old }) at result (record { out = out.new; octets = octets.new; symbols = symbols.new }) }
 {
     if has_room(BENCH_LINE_ROOM, out.len(), at) {
         let meant = parsed(setup, line, octets);
@@ -194,4 +196,31 @@ pub fn turn(
         ends: true,
         at,
     }
+}
+
+// Takes a line of the setup, or of the events. Where a line of text need not fit behind `at`, it takes none and the run ends.
+pub fn turn(
+    device: Device,
+    setup: bool,
+    line: &[u8],
+    number: u32,
+    octets: &mut [u8; 84],
+    symbols: &mut [u8; 73],
+    out: &mut [u8],
+    at: usize,
+) -> Turned
+    requires { Asks device }
+    ensures { TakesLine (has_room bench_line_room out.old at) device (meant_by setup line.now) number (record { out = out.old; octets = octets.old; symbols = symbols.old }) at result (record { out = out.new; octets = octets.new; symbols = symbols.new }) }
+{
+    tell(
+        Tells::Outcomes,
+        device,
+        setup,
+        line,
+        number,
+        octets,
+        symbols,
+        out,
+        at,
+    )
 }
