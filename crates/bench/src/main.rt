@@ -1,7 +1,9 @@
 // The bench program (01, 'On the bench table').
+#![tactic(auto)]
+
 use run::run;
 use turn::Tells;
 
-fn main() {
-    run(Tells::Outcomes);
+fn main(rt: HostRuntime) {
+    run(rt.stdin(), rt.stdout(), Tells::Outcomes);
 }

@@ -1,4 +1,6 @@
 // A run (01, 'On the bench table'): standard input to standard output, line by line, in bounded memory.
+#![tactic(auto)]
+
 ghost use Rattle.std.specs.Prelude.{◌≡◌, false, ◌+◌, ◌≤◌, ◌<◌, length};
 ghost use Rattle.io.specs.Counts.{IsPrefixLen};
 ghost use Rattle.fusb302.specs.View.{Asks};
@@ -8,11 +10,12 @@ ghost use Rattle.stream.specs.Ready.{InBuffer, Ready};
 use fusb302::Device;
 use script::parse::{Number, decimal};
 use script::print::{BENCH_LINE_ROOM, print_bad};
+use std::io::{Print, Stdin, Stdout};
 use stream::{Input, Stream, begin, fill, room, stepped};
-use turn::{Tells, turn};
+use turn::{Tells, tell};
 
 // How far the octets read go toward a line: the place behind them, how many the line has, and whether it is whole.
-#[derive(Drop)]
+#[derive(Clone, Copy)]
 struct Piece {
     at: usize,
     count: usize,
@@ -54,7 +57,7 @@ fn piece_of_line(input: Input, buf: &[u8; 65536], line: &mut [u8], from: usize) 
     }
 }
 
-#[derive(Drop)]
+#[derive(Clone, Copy)]
 struct Taken {
     stream: Stream,
     count: usize,
@@ -63,6 +66,8 @@ struct Taken {
 // The rest of a line that has `from` octets so far. Before more is read, what is printed is handed over to be written, so that whoever
 // waits for an answer has it (only run: see `fill`).
 fn rest_of_line(
+    stdin: Stdin,
+    stdout: Stdout,
     stream: Stream,
     from: usize,
     buf: &mut [u8; 65536],
@@ -75,7 +80,7 @@ fn rest_of_line(
     let mut s = stream;
     let mut n = from;
     while n < 256 {
-        s = fill(s, buf, out);
+        s = fill(stdin, stdout, s, buf, out);
         let input = s.input;
         if input.at < input.end {
             let piece = piece_of_line(input, buf, line, n);
@@ -105,7 +110,14 @@ fn rest_of_line(
 }
 
 // The next line without its LF; 256 octets of one that is longer than 255. At the end of the input it is empty.
-fn next_line(stream: Stream, buf: &mut [u8; 65536], line: &mut [u8], out: &[u8]) -> Taken
+fn next_line(
+    stdin: Stdin,
+    stdout: Stdout,
+    stream: Stream,
+    buf: &mut [u8; 65536],
+    line: &mut [u8],
+    out: &[u8],
+) -> Taken
     requires { Ready stream × (length line.old ≡ 256) }
     ensures { Ready result.stream × IsPrefixLen result.count line.new }
 {
@@ -123,7 +135,7 @@ fn next_line(stream: Stream, buf: &mut [u8; 65536], line: &mut [u8], out: &[u8])
             used,
             on,
         };
-        let taken = rest_of_line(here, count, buf, line, out);
+        let taken = rest_of_line(stdin, stdout, here, count, buf, line, out);
         let left = taken.stream;
         let after = left.input;
         end = after.end;
@@ -141,14 +153,14 @@ fn next_line(stream: Stream, buf: &mut [u8; 65536], line: &mut [u8], out: &[u8])
 }
 
 // A count that is missing or out of form ends the run. Where output failed the run has ended, and nothing more is printed.
-fn bad(s: Stream, number: u32, out: &mut [u8]) -> Stream
+fn bad(stdout: Stdout, s: Stream, number: u32, out: &mut [u8]) -> Stream
     requires { Ready s × (length out.old ≡ 65536) }
     ensures { Ready result }
 {
     if !s.on {
         return s;
     }
-    let r = room(s, BENCH_LINE_ROOM, out);
+    let r = room(stdout, s, BENCH_LINE_ROOM, out);
     let input = r.input;
     let used = print_bad(number, out, r.used);
     stepped(r, input, used, true)
@@ -161,7 +173,7 @@ fn kept(on: bool, used: usize) -> usize
     if on { used } else { 0 }
 }
 
-#[derive(Drop)]
+#[derive(Clone, Copy)]
 struct Ran {
     device: Device,
     stream: Stream,
@@ -169,6 +181,8 @@ struct Ran {
 
 // One line of the setup, or of the events.
 fn one(
+    stdin: Stdin,
+    stdout: Stdout,
     tells: Tells,
     device: Device,
     stream: Stream,
@@ -183,13 +197,13 @@ fn one(
     requires { Asks device × Ready stream × (length line.old ≡ 256) × (length out.old ≡ 65536) }
     ensures { Asks result.device × Ready result.stream }
 {
-    let taken = next_line(stream, buf, line, out);
+    let taken = next_line(stdin, stdout, stream, buf, line, out);
     let left = taken.stream;
     let n = taken.count;
-    let ready = room(left, BENCH_LINE_ROOM, out);
+    let ready = room(stdout, left, BENCH_LINE_ROOM, out);
     let input = ready.input;
     let used = ready.used;
-    let turned = turn(
+    let turned = tell(
         tells,
         device,
         setup,
@@ -208,6 +222,8 @@ fn one(
 
 // So many lines of the setup, or of the events; number is that of the line before them.
 fn lines(
+    stdin: Stdin,
+    stdout: Stdout,
     tells: Tells,
     first: Device,
     start: Stream,
@@ -229,6 +245,8 @@ fn lines(
     while i < count {
         i += 1;
         let ran = one(
+            stdin,
+            stdout,
             tells,
             device,
             stream,
@@ -249,7 +267,7 @@ fn lines(
     Ran { device, stream }
 }
 
-#[derive(Drop)]
+#[derive(Clone, Copy)]
 struct PartEnd {
     device: Device,
     stream: Stream,
@@ -263,11 +281,18 @@ struct Counted {
 }
 
 // A line of a count.
-fn count_line(before: Stream, buf: &mut [u8; 65536], line: &mut [u8], out: &[u8]) -> Counted
+fn count_line(
+    stdin: Stdin,
+    stdout: Stdout,
+    before: Stream,
+    buf: &mut [u8; 65536],
+    line: &mut [u8],
+    out: &[u8],
+) -> Counted
     requires { Ready before × (length line.old ≡ 256) }
     ensures { Ready result.stream × Few result.number }
 {
-    let taken = rest_of_line(before, 0, buf, line, out);
+    let taken = rest_of_line(stdin, stdout, before, 0, buf, line, out);
     let stream = taken.stream;
     let n = taken.count;
     let number = decimal(&line[..n]);
@@ -276,6 +301,8 @@ fn count_line(before: Stream, buf: &mut [u8; 65536], line: &mut [u8], out: &[u8]
 
 // A count and its lines, and the number of the last; number is that of the line before them.
 fn part(
+    stdin: Stdin,
+    stdout: Stdout,
     tells: Tells,
     device: Device,
     start: Stream,
@@ -290,14 +317,15 @@ fn part(
     requires { Asks device × Ready start × (number ≤ 10000000) × (length line.old ≡ 256) × (length out.old ≡ 65536) }
     ensures { Asks result.device × Ready result.stream × (result.last ≤ number + 10000000) }
 {
-    let counted = count_line(start, buf, line, out);
+    let counted = count_line(stdin, stdout, start, buf, line, out);
     let stream = counted.stream;
     let first = number + 1;
     let said = counted.number;
     match said {
         Number::Is(count) => {
             let ran = lines(
-                tells, device, stream, setup, count, first, buf, line, octets, symbols, out,
+                stdin, stdout, tells, device, stream, setup, count, first, buf, line, octets,
+                symbols, out,
             );
             let device = ran.device;
             let stream = ran.stream;
@@ -308,7 +336,7 @@ fn part(
             }
         }
         Number::Not => {
-            let stream = bad(stream, first, out);
+            let stream = bad(stdout, stream, first, out);
             PartEnd {
                 device,
                 stream,
@@ -320,6 +348,8 @@ fn part(
 
 // The setup, and then the events; how much is printed and not yet written.
 fn both_parts(
+    stdin: Stdin,
+    stdout: Stdout,
     tells: Tells,
     buf: &mut [u8; 65536],
     line: &mut [u8],
@@ -332,6 +362,8 @@ fn both_parts(
 {
     let start = begin();
     let set = part(
+        stdin,
+        stdout,
         tells,
         Device::power_up(),
         start,
@@ -348,7 +380,7 @@ fn both_parts(
     if stream.on {
         let last = set.last;
         let end = part(
-            tells, device, stream, false, last, buf, line, octets, symbols, out,
+            stdin, stdout, tells, device, stream, false, last, buf, line, octets, symbols, out,
         );
         return end.stream.used;
     }
@@ -357,13 +389,15 @@ fn both_parts(
 
 // Takes standard input and tells of it on standard output. No device is lent and nothing is given back; what is read and written is
 // only run.
-pub fn run(tells: Tells) {
+pub fn run(stdin: Stdin, stdout: Stdout, tells: Tells) {
     let mut buf = [0u8; 65536];
     let mut out = [0u8; 65536];
     let mut line = [0u8; 256];
     let mut octets = [0u8; 84];
     let mut symbols = [0u8; 73];
     let used = both_parts(
+        stdin,
+        stdout,
         tells,
         &mut buf,
         &mut line,
@@ -371,5 +405,5 @@ pub fn run(tells: Tells) {
         &mut symbols,
         &mut out,
     );
-    io::write_all(1, &out[..used]);
+    let _ = stdout.write_all(&out[..used]);
 }

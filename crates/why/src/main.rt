@@ -1,7 +1,9 @@
 // Why was there no GoodCRC? (02, A5): of what the bench reads, the answer for each packet.
+#![tactic(auto)]
+
 use run::run;
 use turn::Tells;
 
-fn main() {
-    run(Tells::Reasons);
+fn main(rt: HostRuntime) {
+    run(rt.stdin(), rt.stdout(), Tells::Reasons);
 }
