@@ -94,13 +94,27 @@ def owned():
 
 def names():
     goals = set()
-    for path in files("Proof.antt"):
+    for path in files(("Proof.antt", "Answers.antt", "Invariants.antt")):
         goals |= set(re.findall(r"^(?:pub )?(\S+) : (?:tie|goal|need)\.", read(path), re.M))
     said = {}
     for word in owned():
         new = turned(word)
         if new != word and word not in goals:
             said[word] = new
+    return said
+
+
+INNER = re.compile(r"^ +(?:(?:pub|unfoldable|abbrev) )*([a-z][A-Za-z0-9_'′-]*) :(?!:)(?! (?:tie|goal|need)\.)", re.M)
+
+
+def private(text):
+    """The words that a module within a file keeps to itself, with a dash or a capital inside: in that file alone."""
+    words = set(WORD.findall(text))
+    said = {}
+    for word in INNER.findall(text):
+        new = turned(word)
+        if new != word:
+            said[word] = new if new not in words else new + "_lem"
     return said
 
 
@@ -132,6 +146,8 @@ def main():
         for path in files(ends):
             before = read(path)
             after = turn(before, said)
+            if ends == ".antt":
+                after = respelled(after, private(after))
             if after != before:
                 with open(path, "w", encoding="utf-8") as f:
                     f.write(after)

@@ -49,11 +49,11 @@ module _ (d : Device) (asks : Asks d) (before : List ℕ) (a : ℕ) where
         (read_checks (view d) (length before) a ∙ simp (le-ltb (length before) frame_room room, h))
 
     -- a read that is taken gives an octet, sends nothing, and leaves a device
-    read-gives : exists a ≡ true → (eqb a fifos && eqb (length (view d).rx) 0) ≡ false → a < 256 → (v : ℕ) (t : Device) → Arranged t
+    read_gives : exists a ≡ true → (eqb a fifos && eqb (length (view d).rx) 0) ≡ false → a < 256 → (v : ℕ) (t : Device) → Arranged t
         → view t ≡ after_read a (view d) → v ≡ read_value a (view d)
         → Serves (read (length before) a) d before (record { device = t; reply = Value v; count = 0 }) before
     unfolding accepted reply_to joined
-    read-gives h k small v t arranged p q =
+    read_gives h k small v t arranged p q =
         serves_yes (read (length before) a) d before asks
         (read_checks (view d) (length before) a ∙ simp (le-ltb (length before) frame_room room, h, k)) small
         (record { device = t; reply = Value v; count = 0 }) before arranged p (ap value q) refl refl
@@ -67,7 +67,7 @@ module _ (d : Device) (asks : Asks d) (before : List ℕ) (a : ℕ) where
       unfolding after_read read_value cell
       read_of v i p q =
           let g = asks.arranged in
-          read-gives there (rw other refl) small v _ (record { cells = g.cells; tx = g.tx; rx = g.rx })
+          read_gives there (rw other refl) small v _ (record { cells = g.cells; tx = g.tx; rx = g.rx })
           (rw other (ap (λ x. with_ints x (view d)) p)) (rw other q)
 
 -- ---- what stands at an address
@@ -165,7 +165,7 @@ module _ (d : Device) (asks : Asks d) where
   port_read h v rx p q r =
       record {
         serves = λ before room.
-            read-gives d asks before fifos room refl
+            read_gives d asks before fifos room refl
             (ne_eqb (length (held d.rx)) 0 (λ e. h (sym (held_length d.rx sound) ∙ e))) (omega arith) v _
             (record { cells = asks.arranged.cells; tx = asks.arranged.tx; rx = q }) (ap (λ x. with_rx x (view d)) r) p;
       }
@@ -188,22 +188,22 @@ module _ (d : Device) (asks : Asks d) (before : List ℕ) where
 -- ---- reads of an address
 
 module _ (d : Device) (asks : Asks d) (before : List ℕ) (room : frame_room ≤ length before) (a : ℕ) (small : a < 256) where
-  nothing-cleared : eqb a interrupta ≡ false → eqb a interruptb ≡ false → eqb a interrupt ≡ false → ints_of d.ints ≡ cleared_at a (ints_of d.ints)
+  nothing_cleared : eqb a interrupta ≡ false → eqb a interruptb ≡ false → eqb a interrupt ≡ false → ints_of d.ints ≡ cleared_at a (ints_of d.ints)
   unfolding cleared_at
-  nothing-cleared p q r = rw (p, q, r) refl
+  nothing_cleared p q r = rw (p, q, r) refl
 
   pub read_id : a ≡ device_id → Serves (read (length before) a) d before (record { device = d; reply = Value 0x91; count = 0 }) before
   read_id e =
       let w = at_id a e in
       read_of d asks before a room w.1 w.0 small 0x91 d.ints
-      (nothing-cleared (rw e refl) (rw e refl) (rw e refl)) (rw e refl)
+      (nothing_cleared (rw e refl) (rw e refl) (rw e refl)) (rw e refl)
 
   pub read_stored : (2 ≤ a) × (a ≤ 0x10)
       → Serves (read (length before) a) d before (record { device = d; reply = Value (get_or d.cells (a - 2) 0); count = 0 }) before
   read_stored h =
       let w = at_stored a h.0 h.1 in
       read_of d asks before a room w.1 w.0 small (get_or d.cells (a - 2) 0) d.ints
-      (nothing-cleared (ne_eqb a interrupta (λ e. omega arith)) (ne_eqb a interruptb (λ e. omega arith)) (ne_eqb a interrupt (λ e. omega arith)))
+      (nothing_cleared (ne_eqb a interrupta (λ e. omega arith)) (ne_eqb a interruptb (λ e. omega arith)) (ne_eqb a interrupt (λ e. omega arith)))
       (rw (w.3, w.2) refl)
 
   pub read_shown : (0x3C ≤ a) × (a ≤ 0x42) → (v : ℕ) (i : Ints) → v ≡ get_or (shown (view d)) (a - status0a) 0

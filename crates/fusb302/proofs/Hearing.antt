@@ -168,8 +168,8 @@ module _ (d : Device) (arranged : Arranged d) (k : ℕ) (sop : k < sop_kinds) (m
   counted : length octets ≡ rx.len
   counted = sym (ap length holds) ∙ held_length rx stored.0
 
-  is-longer : Becomes (with_kind k (with_rx octets (view d))) longer
-  is-longer =
+  is_longer : Becomes (with_kind k (with_rx octets (view d))) longer
+  is_longer =
       record {
         state = rw (lt-ltb k sop_kinds sop, holds) refl;
         arranged = record { cells = arranged.cells; tx = arranged.tx; rx = stored.0 };
@@ -177,11 +177,11 @@ module _ (d : Device) (arranged : Arranged d) (k : ℕ) (sop : k < sop_kinds) (m
 
   pub keeps_on : (rx.len ≡ rx_room → ⊥) → Becomes (keeps k m (view d)) longer
   unfolding keeps
-  keeps_on h = rw (counted, ne_eqb rx.len rx_room h) is-longer
+  keeps_on h = rw (counted, ne_eqb rx.len rx_room h) is_longer
 
   pub keeps_full : rx.len ≡ rx_room → (u : Device) → Becomes (raises I_ALERT (view longer)) u → Becomes (keeps k m (view d)) u
   unfolding keeps
-  keeps_full h u x = rw (counted, eq-eqb rx.len rx_room h) (and_then _ longer is-longer (raises I_ALERT) u x)
+  keeps_full h u x = rw (counted, eq-eqb rx.len rx_room h) (and_then _ longer is_longer (raises I_ALERT) u x)
 
 module _ (d : Device) (k : ℕ) (m : List ℕ) (t : Device) (kept : Becomes (keeps k m (view d)) t) (before : List ℕ) where
   pub stores_only : replies_to m (view d) ≡ false → Does (stores k m (view d)) before (done t 0) before
@@ -210,8 +210,8 @@ room_count d h m e =
 
 module _ (d a b c : Device) (k : ℕ) (m : List ℕ) (w r : Bool) (awaits : w ≡ awaited k m (view d)) (resets : r ≡ is_control Soft_Reset m)
     (checked : Becomes (checks (view d)) a) (ended : Becomes (only_if w acknowledged (view a)) b) (shown : Becomes (only_if r soft_reset_heard (view b)) c) where
-  is-noted : view c ≡ noted k m (view d)
-  is-noted =
+  is_noted : view c ≡ noted k m (view d)
+  is_noted =
       shown.state ∙ ap (λ (s : State). only_if r soft_reset_heard s) (ended.state ∙ ap (λ (s : State). only_if w acknowledged s) checked.state)
       ∙ ap (λ (v : Bool). only_if r soft_reset_heard (only_if v acknowledged (checks (view d)))) awaits
       ∙ ap (λ (v : Bool). only_if v soft_reset_heard (only_if (awaited k m (view d)) acknowledged (checks (view d)))) resets
@@ -221,7 +221,7 @@ module _ (d a b c : Device) (k : ℕ) (m : List ℕ) (w r : Bool) (awaits : w �
   unfolding accepts
   accepts_stores e before o after x =
       let same : accepts k m (view d) ≡ stores k m (view c) =
-      ap (λ (t : State). cond (fits_rx m t) (stores k m t) (silent (raises I_ALERT t))) (sym is-noted)
+      ap (λ (t : State). cond (fits_rx m t) (stores k m t) (silent (raises I_ALERT t))) (sym is_noted)
       ∙ ap (λ (v : Bool). cond v (stores k m (view c)) (silent (raises I_ALERT (view c)))) e in
       subst (λ (y : Effect). Does y before o after) (sym same) x
 
@@ -230,7 +230,7 @@ module _ (d a b c : Device) (k : ℕ) (m : List ℕ) (w r : Bool) (awaits : w �
   unfolding accepts
   accepts_full e u x before =
       let same : accepts k m (view d) ≡ silent (raises I_ALERT (view c)) =
-      ap (λ (t : State). cond (fits_rx m t) (stores k m t) (silent (raises I_ALERT t))) (sym is-noted)
+      ap (λ (t : State). cond (fits_rx m t) (stores k m t) (silent (raises I_ALERT t))) (sym is_noted)
       ∙ ap (λ (v : Bool). cond v (stores k m (view c)) (silent (raises I_ALERT (view c)))) e in
       rw same (silently _ u x before)
 

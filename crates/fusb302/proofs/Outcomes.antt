@@ -115,15 +115,15 @@ one_why d k m r s p q = same_why r s (p ∙ sym q)
 pub view_enough : ViewEnough
 view_enough =
     record {
-      events = events-alike;
+      events = events_alike;
       levels = λ d c r s v p q. p ∙ ap (λ (u : State). not (int_low u)) v ∙ sym q;
       whys = λ d c k m r s v p q. same_why r s (p ∙ ap (λ (u : State). why u k m) v ∙ sym q);
     }
   where
-    events-alike : (e : Event) (d c : Device) (before : List ℕ) (r s : Outcome) (a b : List ℕ)
+    events_alike : (e : Event) (d c : Device) (before : List ℕ) (r s : Outcome) (a b : List ℕ)
         → view d ≡ view c → Serves e d before r a → Serves e c before s b
         → Alike r s a b × (Asks r.device × Asks s.device)
-    events-alike e d c before r s a b v p q =
+    events_alike e d c before r s a b v p q =
         let same : step (view d) e ≡ step (view c) e = ap (λ (u : State). step u e) v in (
           record {
             reply = same_reply_lem p.reply q.reply (ap (λ (z : Result). z.reply) same);
@@ -149,14 +149,14 @@ module _ (d : Device) (k : ℕ) (m : List ℕ) (w : Why) (before : List ℕ) (r 
   answered : w ≡ Leaves → GoodCrcFor k m sent
   answered e = (leaves_exactly.leaves (view d) (length before) k m room).0 (sym is ∙ ap reason_of e)
 
-  sends-some : w ≡ Leaves → 0 < r.count
-  sends-some e =
+  sends_some : w ≡ Leaves → 0 < r.count
+  sends_some e =
       let g = answered e in
       rw (serves.count, g.alone) (some_symbols g.frame g.whole)
 
-  some-leave : 0 < r.count → w ≡ Leaves
+  some_leave : 0 < r.count → w ≡ Leaves
   unfolding joined
-  some-leave h = go (why (view d) k m) refl
+  some_leave h = go (why (view d) k m) refl
     where
       go : (o : Option Reason) → why (view d) k m ≡ o → w ≡ Leaves
       go none e = same_why w Leaves (is ∙ e)
@@ -175,7 +175,7 @@ module _ (d : Device) (k : ℕ) (m : List ℕ) (w : Why) (before : List ℕ) (r 
 pub why_true_of_event : WhyTrueOfEvent
 why_true_of_event d k m w before r after room is serves =
     record {
-      leaves = (sends-some d k m w before r after room is serves, some-leave d k m w before r after room is serves);
+      leaves = (sends_some d k m w before r after room is serves, some_leave d k m w before r after room is serves);
       reply =
           λ e. record {
             frames = _;

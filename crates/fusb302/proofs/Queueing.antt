@@ -219,16 +219,16 @@ sop_is o k h e = go o (sym (rw (lt-ltb k sop_kinds h) at e))
 
 module _ (octets : List ℕ) (len : ℕ) where
   -- where the queue has no fifth octet, it announces nothing
-  no-fifth : len ≤ 4 → announced (get_or (take len octets) 4 0) ≡ 0
+  no_fifth : len ≤ 4 → announced (get_or (take len octets) 4 0) ≡ 0
   unfolding announced
-  no-fifth h = rw (get_or-eq_default (take len octets) 0 {n = 4} (rw length-take (omega arith)))
+  no_fifth h = rw (get_or-eq_default (take len octets) 0 {n = 4} (rw length-take (omega arith)))
 
   pub spelt_uncounted : announced (get_or octets 4 0) ≡ 0 → none ≡ spelt (take len octets)
   unfolding spelt
   spelt_uncounted e =
       let nothing : announced (get_or (take len octets) 4 0) ≡ 0 =
       elim (dec_le len 4) [
-        | yes h ↦ no-fifth h
+        | yes h ↦ no_fifth h
         | no h ↦ rw (get_or-take len octets 4 0 (omega arith)) e
       ] in
       no_end _ _ _ (simp nothing)
@@ -240,7 +240,7 @@ module _ (octets : List ℕ) (len : ℕ) where
       let m = announced (get_or q 4 0) in
       let l = length-take-le len octets k in
       elim (dec_le len 4) [
-        | yes h ↦ no_end _ m q (simp (no-fifth h))
+        | yes h ↦ no_end _ m q (simp (no_fifth h))
         | no h ↦
             let same = ap announced (get_or-take len octets 4 0 (omega arith)) in
             no_end _ m q (simp (longer (drop (5 + m) q) closing (λ e. n (omega (arith, length-drop (5 + m) q))), and-false))
@@ -275,18 +275,18 @@ module _ (octets : List ℕ) (len : ℕ) where
     pub spelt_unset : none ≡ kind_of (take 4 octets) → none ≡ spelt (take len octets)
     spelt_unset e = no_sop _ n (take len octets) e ∙ sym at_length
 
-    ended-else : same_list (get_or octets (n + 5) 0 ∷ get_or octets (n + 6) 0 ∷ get_or octets (n + 7) 0 ∷ []) closing ≡ false
+    ended_else : same_list (get_or octets (n + 5) 0 ∷ get_or octets (n + 6) 0 ∷ get_or octets (n + 7) 0 ∷ []) closing ≡ false
         → none ≡ spelt (take len octets)
-    ended-else e = no_end _ n (take len octets) (rw end (simp (e, and-false))) ∙ sym at_length
+    ended_else e = no_end _ n (take len octets) (rw end (simp (e, and-false))) ∙ sym at_length
 
     pub spelt_no_crc : (get_or octets (n + 5) 0 ≡ CRC → ⊥) → none ≡ spelt (take len octets)
-    spelt_no_crc h = ended-else (simp (ne_eqb _ _ h))
+    spelt_no_crc h = ended_else (simp (ne_eqb _ _ h))
 
     pub spelt_no_eop : (get_or octets (n + 6) 0 ≡ EOP → ⊥) → none ≡ spelt (take len octets)
-    spelt_no_eop h = ended-else (simp (ne_eqb _ _ h, and-false))
+    spelt_no_eop h = ended_else (simp (ne_eqb _ _ h, and-false))
 
     pub spelt_no_off : (get_or octets (n + 7) 0 ≡ TXOFF → ⊥) → none ≡ spelt (take len octets)
-    spelt_no_off h = ended-else (simp (ne_eqb _ _ h, and-false))
+    spelt_no_off h = ended_else (simp (ne_eqb _ _ h, and-false))
 
     pub spelt_whole : (k : ℕ) → (n ≡ 0 → ⊥) → sop_kind k ≡ kind_of (take 4 octets) → k ≤ 5 → (k ≡ 5 → ⊥)
         → get_or octets (n + 5) 0 ≡ CRC → get_or octets (n + 6) 0 ≡ EOP → get_or octets (n + 7) 0 ≡ TXOFF

@@ -129,11 +129,11 @@ module _ (d : Device) (arranged : Arranged d) where
     port_busy h = record { is = λ room r. port_checks (view d) room v r ∙ rw (opened_is d ∙ h) refl }
 
     module _ (free : d.request.active ≡ false) where
-      at-port : (n : ℕ) (within token begin : Bool) → inside (queued d.tx) ≡ within → is_token v ≡ token → eqb v START ≡ begin
+      at_port : (n : ℕ) (within token begin : Bool) → inside (queued d.tx) ≡ within → is_token v ≡ token → eqb v START ≡ begin
           → port_no false within token begin (full d) (whole d) (on d) ≡ no_of n
           → Refuses (view d) fifos v n
       unfolding cell
-      at-port n within token begin p q r e =
+      at_port n within token begin p q r e =
           record {
             is = λ room h.
                 port_checks (view d) room v h
@@ -142,7 +142,7 @@ module _ (d : Device) (arranged : Arranged d) where
 
       pub port_data : (d.tx.left ≡ 0 → ⊥) → (n : ℕ) → n ≡ cond (full d) 5 0 → Refuses (view d) fifos v n
       port_data h n e =
-          at-port n true (is_token v) (eqb v START) (not-false _ (outside ∙ ne_eqb _ _ h)) refl refl
+          at_port n true (is_token v) (eqb v START) (not-false _ (outside ∙ ne_eqb _ _ h)) refl refl
           (data_no (is_token v) (eqb v START) (full d) (whole d) (on d) ∙ ap no_of (sym e))
 
       module _ (h : d.tx.left ≡ 0) where
@@ -152,15 +152,15 @@ module _ (d : Device) (arranged : Arranged d) where
         pub port_start_lem : v ≡ START → (n : ℕ) → n ≡ start_no (whole d) (on d) → Refuses (view d) fifos v n
         unfolding is_token set_symbol
         port_start_lem s n e =
-            at-port n false true true token (ap is_token s) (eq-eqb _ _ s) (start_no_lem (full d) (whole d) (on d) ∙ ap no_of (sym e))
+            at_port n false true true token (ap is_token s) (eq-eqb _ _ s) (start_no_lem (full d) (whole d) (on d) ∙ ap no_of (sym e))
 
         module _ (s : v ≡ START → ⊥) where
           pub port_token : is_token v ≡ true → (n : ℕ) → n ≡ cond (full d) 5 0 → Refuses (view d) fifos v n
           port_token t n e =
-              at-port n false true false token t (ne_eqb _ _ s) (token_no (full d) (whole d) (on d) ∙ ap no_of (sym e))
+              at_port n false true false token t (ne_eqb _ _ s) (token_no (full d) (whole d) (on d) ∙ ap no_of (sym e))
 
           pub port_bad : is_token v ≡ false → Refuses (view d) fifos v 3
-          port_bad t = at-port 3 false false false token t (ne_eqb _ _ s) refl
+          port_bad t = at_port 3 false false false token t (ne_eqb _ _ s) refl
 
     pub port_room : Refuses (view d) fifos v 0 → (eqb d.tx.left 0 && eqb v START) ≡ false → d.tx.len < tx_room
     port_room taken h =
@@ -182,18 +182,18 @@ module _ (s : State) (a v : ℕ) where
   pub write_nowhere : exists a ≡ false → Refuses s a v 1
   write_nowhere e = record { is = λ room h. write_checks s room a v ∙ rw (le-ltb room frame_room h, e) refl }
 
-  read-only : exists a ≡ true → read_only a ≡ true → Refuses s a v 2
-  read-only e k = record { is = λ room h. write_checks s room a v ∙ rw (le-ltb room frame_room h, e, k) refl }
+  read_only_lem : exists a ≡ true → read_only a ≡ true → Refuses s a v 2
+  read_only_lem e k = record { is = λ room h. write_checks s room a v ∙ rw (le-ltb room frame_room h, e, k) refl }
 
   pub write_id : a ≡ device_id → Refuses s a v 2
   unfolding read_only
-  write_id e = read-only (at_id a e).0 (rw e refl)
+  write_id e = read_only_lem (at_id a e).0 (rw e refl)
 
   pub write_shown : (0x3C ≤ a) × (a ≤ 0x42) → Refuses s a v 2
   unfolding read_only
   write_shown h =
       let w = at_shown a h.0 h.1 in
-      read-only w.0 (rw (w.3, le-leb 0x3C a h.0, le-leb a 0x42 h.1) refl)
+      read_only_lem w.0 (rw (w.3, le-leb 0x3C a h.0, le-leb a 0x42 h.1) refl)
 
   -- an address that is written, other than the port, is stored
   pub taken_stored : Refuses s a v 0 → (a ≡ fifos → ⊥) → (2 ≤ a) × (a ≤ 0x10)
@@ -213,16 +213,16 @@ register_no start reset busy whole on =
     cond (start && busy) (some 6) (cond (start && not whole) (some 4) (cond ((start || reset) && not on) (some 7) none))
 
 module _ (s : State) (a v : ℕ) (lo : 2 ≤ a) (hi : a ≤ 0x10) where
-  register-checks : (room : ℕ) → frame_room ≤ room → refusal s (write room a v)
+  register_checks : (room : ℕ) → frame_room ≤ room → refusal s (write room a v)
       ≡ register_no (tx_start a v) (sends_reset a v) (opened s) (is_message (queue_at s a v)) (driver_on (reg switches1 s))
   unfolding port_start starts to_be_stored read_only
-  register-checks room h =
+  register_checks room h =
       let w = at_stored a lo hi in
       write_checks s room a v ∙ simp (le-ltb room frame_room h, w.0, w.1, w.3, lt-leb 0x3C a (omega arith), or-false)
 
   -- no start, and no Hard Reset
   quiet : tx_start a v ≡ false → sends_reset a v ≡ false → Refuses s a v 0
-  quiet p q = record { is = λ room h. register-checks room h ∙ rw (p, q) refl }
+  quiet p q = record { is = λ room h. register_checks room h ∙ rw (p, q) refl }
 
   pub not_command : (a ≡ control0 → ⊥) → (a ≡ control3 → ⊥) → Refuses s a v 0
   unfolding tx_start sends_reset
@@ -239,41 +239,41 @@ module _ (d : Device) (v : ℕ) where
   control3_quiet h = quiet (view d) control3 v (omega arith) (omega arith) refl h
 
   module _ (h : has SEND_HARD_RESET v ≡ true) where
-    at-reset : (n : ℕ) (b : Bool) → on d ≡ b → cond {A = Option ℕ} (not b) (some 7) none ≡ no_of n → Refuses (view d) control3 v n
+    at_reset : (n : ℕ) (b : Bool) → on d ≡ b → cond {A = Option ℕ} (not b) (some 7) none ≡ no_of n → Refuses (view d) control3 v n
     unfolding tx_start sends_reset cell
-    at-reset n b e k =
-        record { is = λ room r. register-checks (view d) control3 v (omega arith) (omega arith) room r ∙ rw (h, e) k }
+    at_reset n b e k =
+        record { is = λ room r. register_checks (view d) control3 v (omega arith) (omega arith) room r ∙ rw (h, e) k }
 
     pub control3_on : on d ≡ true → Refuses (view d) control3 v 0
-    control3_on e = at-reset 0 true e refl
+    control3_on e = at_reset 0 true e refl
 
     pub control3_off : on d ≡ false → Refuses (view d) control3 v 7
-    control3_off e = at-reset 7 false e refl
+    control3_off e = at_reset 7 false e refl
 
   module _ (h : has TX_START v ≡ true) where
-    at-start : (n : ℕ) (busy flush : Bool) → d.request.active ≡ busy → has TX_FLUSH v ≡ flush
+    at_start : (n : ℕ) (busy flush : Bool) → d.request.active ≡ busy → has TX_FLUSH v ≡ flush
         → cond busy (some 6) (cond (not (is_message (cond flush [] (queued d.tx)))) (some 4) (cond (not (on d)) (some 7) none)) ≡ no_of n
         → Refuses (view d) control0 v n
     unfolding tx_start sends_reset queue_at cell
-    at-start n busy flush p q e =
-        record { is = λ room r. register-checks (view d) control0 v (omega arith) (omega arith) room r ∙ rw (h, opened_is d ∙ p, q) e }
+    at_start n busy flush p q e =
+        record { is = λ room r. register_checks (view d) control0 v (omega arith) (omega arith) room r ∙ rw (h, opened_is d ∙ p, q) e }
 
     pub control0_busy : d.request.active ≡ true → Refuses (view d) control0 v 6
-    control0_busy p = at-start 6 true (has TX_FLUSH v) p refl refl
+    control0_busy p = at_start 6 true (has TX_FLUSH v) p refl refl
 
     pub control0_flush : d.request.active ≡ false → has TX_FLUSH v ≡ true → Refuses (view d) control0 v 4
-    control0_flush p q = at-start 4 false true p q (rw spelt_nil refl)
+    control0_flush p q = at_start 4 false true p q (rw spelt_nil refl)
 
     pub control0_start : d.request.active ≡ false → has TX_FLUSH v ≡ false → (n : ℕ)
         → n ≡ start_no (whole d) (on d) → Refuses (view d) control0 v n
-    control0_start p q n e = at-start n false false p q (start_no_lem false (whole d) (on d) ∙ ap no_of (sym e))
+    control0_start p q n e = at_start n false false p q (start_no_lem false (whole d) (on d) ∙ ap no_of (sym e))
 
   -- a start that is taken flushes nothing
   pub no_flush : Refuses (view d) control0 v 0 → has TX_START v ≡ true → has TX_FLUSH v ≡ false
   unfolding tx_start sends_reset queue_at
   no_flush taken h =
       go (has TX_FLUSH v) (opened (view d)) _
-      (rw h at (sym (register-checks (view d) control0 v (omega arith) (omega arith) frame_room (omega arith)) ∙ taken.is frame_room (omega arith)))
+      (rw h at (sym (register_checks (view d) control0 v (omega arith) (omega arith) frame_room (omega arith)) ∙ taken.is frame_room (omega arith)))
     where
       go : (flush busy : Bool) (o : Option ℕ)
           → cond busy (some 6) (cond (not (is_message (cond flush [] (queued d.tx)))) (some 4) o) ≡ none → flush ≡ false

@@ -39,8 +39,8 @@ pub three_steps : (x y z v : ℕ) (p q r : Bool) → p ≡ above 200 v → q ≡
 three_steps x y z v p q r e f g h i j = rw (← e, ← f, ← g) (omega arith)
 
 module _ (sw : ℕ) (p : machine.Pins) (r : Measured) (is : measured_as r ≡ measured sw p) where
-  on-pin : (v : Millivolts) → r ≡ Pin v → measured sw p ≡ some v.0
-  on-pin v e = sym is ∙ ap measured_as e
+  on_pin : (v : Millivolts) → r ≡ Pin v → measured sw p ≡ some v.0
+  on_pin v e = sym is ∙ ap measured_as e
 
   on_none : r ≡ Nothing → measured sw p ≡ none
   on_none e = sym is ∙ ap measured_as e
@@ -48,7 +48,7 @@ module _ (sw : ℕ) (p : machine.Pins) (r : Measured) (is : measured_as r ≡ me
   module _ (pwr : ℕ) (h : has PWR2 pwr ≡ true) where
     pub level_pin : (v : Millivolts) → r ≡ Pin v → bc_lvl_of sw pwr p ≡ steps levels v.0
     unfolding bc_lvl_of
-    level_pin v e = simp (h, on-pin v e)
+    level_pin v e = simp (h, on_pin v e)
 
     pub level_none : r ≡ Nothing → bc_lvl_of sw pwr p ≡ 0
     unfolding bc_lvl_of
@@ -59,7 +59,7 @@ module _ (sw : ℕ) (p : machine.Pins) (r : Measured) (is : measured_as r ≡ me
     module _ (m : ℕ) (k : has MEAS_VBUS m ≡ false) where
       pub comp_pin : (v : Millivolts) → r ≡ Pin v → comp_of sw m pwr p ≡ above (cc_reference (bit_and m MDAC)) v.0
       unfolding comp_of
-      comp_pin v e = simp (h, k, on-pin v e, or-false)
+      comp_pin v e = simp (h, k, on_pin v e, or-false)
 
       pub comp_none : r ≡ Nothing → comp_of sw m pwr p ≡ false
       unfolding comp_of

@@ -128,19 +128,19 @@ module _ (d : Device) (arranged : Arranged d) (v : ℕ) where
     abbrev longer : Device
     longer = record { cells = d.cells; tx = q; rx = d.rx; status = d.status; ints = d.ints; request = d.request; pins = d.pins }
 
-    is-longer : Becomes (with_tx (queued d.tx ++ (v ∷ [])) (view d)) longer
-    is-longer = record { state = rw more.1 refl; arranged = record { cells = arranged.cells; tx = more.0; rx = arranged.rx } }
+    is_longer : Becomes (with_tx (queued d.tx ++ (v ∷ [])) (view d)) longer
+    is_longer = record { state = rw more.1 refl; arranged = record { cells = arranged.cells; tx = more.0; rx = arranged.rx } }
 
     counted : length (queued d.tx ++ (v ∷ [])) ≡ q.len
     counted = sym (ap length more.1) ∙ queued_length q more.0
 
     pub queue_on : (q.len ≡ tx_room → ⊥) → Becomes (queues v (view d)) longer
     unfolding queues
-    queue_on h = rw (counted, ne_eqb q.len tx_room h) is-longer
+    queue_on h = rw (counted, ne_eqb q.len tx_room h) is_longer
 
     pub queue_full : q.len ≡ tx_room → (u : Device) → Becomes (raises I_ALERT (view longer)) u → Becomes (queues v (view d)) u
     unfolding queues
-    queue_full h u x = rw (counted, eq-eqb q.len tx_room h) (and_then _ longer is-longer (raises I_ALERT) u x)
+    queue_full h u x = rw (counted, eq-eqb q.len tx_room h) (and_then _ longer is_longer (raises I_ALERT) u x)
 
 -- ---- Control0
 

@@ -102,7 +102,7 @@ one_less (x ∷ xs) [] h e = absurd (omega arith)
 one_less (x ∷ xs) (y ∷ ys) h e =
     elim (ℕ_discrete x y) [
       | yes q ↦ later q (one_less xs ys (omega arith) (omega (arith, agree_same x y xs ys q)))
-      | no q ↦ first-wrong q (agree_all xs ys (omega (arith, agree_other x y xs ys q)))
+      | no q ↦ first_wrong q (agree_all xs ys (omega (arith, agree_other x y xs ys q)))
     ]
   where
     later : x ≡ y → AllBut xs ys → AllBut (x ∷ xs) (y ∷ ys)
@@ -114,8 +114,8 @@ one_less (x ∷ xs) (y ∷ ys) h e =
         each zero h n = sym q
         each (suc i) h n = r.agrees i (omega arith) (λ e. n (ap suc e))
 
-    first-wrong : (x ≡ y → ⊥) → ((i : ℕ) → i < length xs → get_or ys i 0 ≡ get_or xs i 0) → AllBut (x ∷ xs) (y ∷ ys)
-    first-wrong q f = record { wrong = 0; within = omega arith; differs = λ e. q (sym e); agrees = each }
+    first_wrong : (x ≡ y → ⊥) → ((i : ℕ) → i < length xs → get_or ys i 0 ≡ get_or xs i 0) → AllBut (x ∷ xs) (y ∷ ys)
+    first_wrong q f = record { wrong = 0; within = omega arith; differs = λ e. q (sym e); agrees = each }
       where
         each : (i : ℕ) → i < suc (length xs) → (i ≡ 0 → ⊥) → get_or (y ∷ ys) i 0 ≡ get_or (x ∷ xs) i 0
         each zero h n = absurd (n refl)
@@ -138,8 +138,8 @@ less_one (x ∷ xs) (y ∷ ys) h r = go r.wrong r.within r.differs r.agrees (les
 
 -- of a record of four symbols or more and a kind's set
 module _ (l : List ℕ) (long : 4 ≤ length l) (k : ℕ) (h : k < kinds) where
-  is-three : agree (set_of k) l ≡ 3 → InThree l k
-  is-three e =
+  is_three : agree (set_of k) l ≡ 3 → InThree l k
+  is_three e =
       let n = set_length k h in
       let r = one_less (set_of k) l (omega arith) (omega arith) in
       let w = r.within in
@@ -217,41 +217,41 @@ module _ (l : List ℕ) (long : 4 ≤ length l) where
   near : List ℕ
   near = agreeing 0 ordered_sets l
 
-  near-three : (j : ℕ) → In j near → InThree l j
+  near_three : (j : ℕ) → In j near → InThree l j
   unfolding near set_of
-  near-three j m =
+  near_three j m =
       let r = in_agrees 0 ordered_sets l j m in
       let w = r.within in
       let kind : r.i ≡ j = omega (arith, r.kind_is) in
       let three : agree (set_of j) l ≡ 3 = rw kind at r.three in
-      is-three l long j (omega arith) three
+      is_three l long j (omega arith) three
 
-  three-near : (j : ℕ) → InThree l j → In j near
+  three_near : (j : ℕ) → InThree l j → In j near
   unfolding near set_of
-  three-near j t = rw zero-add at (agrees_in 0 ordered_sets l j t.kind (three_is l long j t.kind t))
+  three_near j t = rw zero-add at (agrees_in 0 ordered_sets l j t.kind (three_is l long j t.kind t))
 
   -- by what the list of them is
   none_near : near ≡ [] → (j : ℕ) → InThree l j → ⊥
-  none_near e j t = subst (In j) e (three-near j t)
+  none_near e j t = subst (In j) e (three_near j t)
 
   one_near : (k : ℕ) → near ≡ k ∷ [] → InThree l k × ((j : ℕ) → InThree l j → j ≡ k)
-  one_near k e = (near-three k (subst (In k) (sym e) (inl refl)), λ j t. only (subst (In j) e (three-near j t)))
+  one_near k e = (near_three k (subst (In k) (sym e) (inl refl)), λ j t. only (subst (In j) e (three_near j t)))
     where
       only : {j : ℕ} → In j (k ∷ []) → j ≡ k
       only (inl q) = q
       only (inr m) = absurd m
 
-  several-near : (i j : ℕ) (ks : List ℕ) → near ≡ i ∷ j ∷ ks → Doubtful l
+  several_near : (i j : ℕ) (ks : List ℕ) → near ≡ i ∷ j ∷ ks → Doubtful l
   unfolding near
-  several-near i j ks e =
+  several_near i j ks e =
       let less = in_order 0 ordered_sets l i j ks e in
       record {
         four = long;
         one = i;
         other = j;
         apart = λ q. omega arith;
-        with_one = near-three i (subst (In i) (sym e) (inl refl));
-        with_other = near-three j (subst (In j) (sym e) (inr (inl refl)));
+        with_one = near_three i (subst (In i) (sym e) (inl refl));
+        with_other = near_three j (subst (In j) (sym e) (inr (inl refl)));
       }
 
   -- a kind that agrees in three places is the nearest, or one of several
@@ -264,7 +264,7 @@ module _ (l : List ℕ) (long : 4 ≤ length l) where
           let o = one_near i e in
           let same = o.1 k t in
           inl (record { four = long; none = inexact; three = t; single = λ j u. o.1 j u ∙ sym same })
-      go (i ∷ j ∷ ks) e = inr (several-near i j ks e)
+      go (i ∷ j ∷ ks) e = inr (several_near i j ks e)
 
   -- several that agree, counted
   pub counted_doubtful : 2 ≤ length (agreeing 0 ordered_sets l) → Doubtful l
@@ -274,7 +274,7 @@ module _ (l : List ℕ) (long : 4 ≤ length l) where
       go : (ks : List ℕ) → near ≡ ks → 2 ≤ length ks → Doubtful l
       go [] e h = absurd (omega arith)
       go (i ∷ []) e h = absurd (omega arith)
-      go (i ∷ j ∷ ks) e h = several-near i j ks e
+      go (i ∷ j ∷ ks) e h = several_near i j ks e
 
 -- ---- what is taken
 
@@ -296,9 +296,9 @@ SetMeans l (short p) = (length l < 4) × (p ≡ length l)
 SetMeans l (misfit p) = Untaken l × (p ≡ 0)
 
 module _ (l : List ℕ) (long : 4 ≤ length l) where
-  four-at : set_at l ≡ taken_or (kind_from 0 ordered_sets l) (near l long)
+  four_at : set_at l ≡ taken_or (kind_from 0 ordered_sets l) (near l long)
   unfolding set_at near
-  four-at = simp (le-ltb (length l) 4 long)
+  four_at = simp (le-ltb (length l) 4 long)
 
   module _ (unset : kind_from 0 ordered_sets l ≡ none) where
     inexact : (k : ℕ) → Exactly l k → ⊥
@@ -312,27 +312,27 @@ module _ (l : List ℕ) (long : 4 ≤ length l) where
         each k true e = inexact k e
         each k false t = far k t
 
-    near-means : (ks : List ℕ) → near l long ≡ ks → SetMeans l (single ks)
+    near_means : (ks : List ℕ) → near l long ≡ ks → SetMeans l (single ks)
     unfolding single
-    near-means [] e = (untaken (λ k t. none_near l long e k t.three), refl)
-    near-means (k ∷ []) e =
+    near_means [] e = (untaken (λ k t. none_near l long e k t.three), refl)
+    near_means (k ∷ []) e =
         let o = one_near l long k e in
         record { four = long; none = inexact; three = o.0; single = o.1 }
-    near-means (i ∷ j ∷ ks) e =
-        let d = several-near l long i j ks e in
+    near_means (i ∷ j ∷ ks) e =
+        let d = several_near l long i j ks e in
         (untaken (λ k t. d.apart (t.single d.one d.with_one ∙ sym (t.single d.other d.with_other))), refl)
 
-  long-means : (o : Option ℕ) → kind_from 0 ordered_sets l ≡ o → SetMeans l (taken_or o (near l long))
+  long_means : (o : Option ℕ) → kind_from 0 ordered_sets l ≡ o → SetMeans l (taken_or o (near l long))
   unfolding taken_or
-  long-means (some k) e = kind_set l k e
-  long-means none e = near-means e (near l long) refl
+  long_means (some k) e = kind_set l k e
+  long_means none e = near_means e (near l long) refl
 
 pub set_means : (l : List ℕ) → SetMeans l (set_at l)
 unfolding set_at
 set_means l =
     elim (dec_lt (length l) 4) [
       | yes h ↦ rw (lt-ltb (length l) 4 h) (h, refl)
-      | no h ↦ let long : 4 ≤ length l = omega arith in subst (SetMeans l) (sym (four-at l long)) (long-means l long (kind_from 0 ordered_sets l) refl)
+      | no h ↦ let long : 4 ≤ length l = omega arith in subst (SetMeans l) (sym (four_at l long)) (long_means l long (kind_from 0 ordered_sets l) refl)
     ]
 
 pub one_taken : OneTaken

@@ -195,10 +195,10 @@ module _ (l : List ℕ) where
         no_more = λ b. let z : true ≡ false = sym (true_end count (get_or l count 0) (fits b h)) ∙ e in true≢false z;
       }
 
-  at-end : count < length l → (b : Bool) → may_end count (get_or l count 0) ≡ b
+  at_end : count < length l → (b : Bool) → may_end count (get_or l count 0) ≡ b
       → Says Sized body l (cond b (found (octets_of (take count l))) (misfit count))
-  at-end h true e = stands h e
-  at-end h false e = ends h e
+  at_end h true e = stands h e
+  at_end h false e = ends h e
 
   pub body_says : Says Sized body l (body_at l)
   unfolding body_at end_or count
@@ -209,4 +209,4 @@ module _ (l : List ℕ) where
       go true e =
           let p = eqb-true count (length l) e in
           (whole_part Sized body l count p part, p)
-      go false e = at-end (omega (arith, eqb-false count (length l) e, (run 68 l).within)) _ refl
+      go false e = at_end (omega (arith, eqb-false count (length l) e, (run 68 l).within)) _ refl

@@ -42,23 +42,23 @@ module _ (a b c d : ℕ) (ha : a < 256) (hb : b < 256) (hc : c < 256) (hd : d < 
   total : ℕ
   total = a + 256 * b + 65536 * c + 16777216 * d
 
-  over-1 : total / 256 ≡ b + 256 * c + 65536 * d
+  over_1 : total / 256 ≡ b + 256 * c + 65536 * d
   unfolding total
-  over-1 = ap (λ (x : ℕ). x / 256) (omega arith) ∙ digits_div (b + 256 * c + 65536 * d) ha
+  over_1 = ap (λ (x : ℕ). x / 256) (omega arith) ∙ digits_div (b + 256 * c + 65536 * d) ha
 
-  over-2 : total / 65536 ≡ c + 256 * d
-  over-2 = sym (div-div-eq-div-mul total 256 256) ∙ ap (λ (x : ℕ). x / 256) (over-1 ∙ omega arith) ∙ digits_div (c + 256 * d) hb
+  over_2 : total / 65536 ≡ c + 256 * d
+  over_2 = sym (div-div-eq-div-mul total 256 256) ∙ ap (λ (x : ℕ). x / 256) (over_1 ∙ omega arith) ∙ digits_div (c + 256 * d) hb
 
-  over-3 : total / 16777216 ≡ d
-  over-3 = sym (div-div-eq-div-mul total 65536 256) ∙ ap (λ (x : ℕ). x / 256) (over-2 ∙ omega arith) ∙ digits_div d hc
+  over_3 : total / 16777216 ≡ d
+  over_3 = sym (div-div-eq-div-mul total 65536 256) ∙ ap (λ (x : ℕ). x / 256) (over_2 ∙ omega arith) ∙ digits_div d hc
 
-  four-back : four_octets total ≡ a ∷ b ∷ c ∷ d ∷ []
+  four_back : four_octets total ≡ a ∷ b ∷ c ∷ d ∷ []
   unfolding four_octets total
-  four-back =
+  four_back =
       let o : total % 256 ≡ a = ap (λ (x : ℕ). x % 256) (omega arith) ∙ digits_mod (b + 256 * c + 65536 * d) ha in
-      let p : total / 256 % 256 ≡ b = ap (λ (x : ℕ). x % 256) (over-1 ∙ omega arith) ∙ digits_mod (c + 256 * d) hb in
-      let q : total / 65536 % 256 ≡ c = ap (λ (x : ℕ). x % 256) (over-2 ∙ omega arith) ∙ digits_mod d hc in
-      let r : total / 16777216 % 256 ≡ d = ap (λ (x : ℕ). x % 256) over-3 ∙ mod-eq_of_lt hd in
+      let p : total / 256 % 256 ≡ b = ap (λ (x : ℕ). x % 256) (over_1 ∙ omega arith) ∙ digits_mod (c + 256 * d) hb in
+      let q : total / 65536 % 256 ≡ c = ap (λ (x : ℕ). x % 256) (over_2 ∙ omega arith) ∙ digits_mod d hc in
+      let r : total / 16777216 % 256 ≡ d = ap (λ (x : ℕ). x % 256) over_3 ∙ mod-eq_of_lt hd in
       rw (o, p, q, r)
 
 number_forth : (l : List ℕ) → length l ≡ 4 → Octets l → four_octets (number l) ≡ l
@@ -67,7 +67,7 @@ number_forth [] e o = absurd (omega arith)
 number_forth (a ∷ []) e o = absurd (omega arith)
 number_forth (a ∷ b ∷ []) e o = absurd (omega arith)
 number_forth (a ∷ b ∷ c ∷ []) e o = absurd (omega arith)
-number_forth (a ∷ b ∷ c ∷ d ∷ []) e o = four-back a b c d o.0 o.1.0 o.1.1.0 o.1.1.1.0
+number_forth (a ∷ b ∷ c ∷ d ∷ []) e o = four_back a b c d o.0 o.1.0 o.1.1.0 o.1.1.1.0
 number_forth (a ∷ b ∷ c ∷ d ∷ f ∷ l) e o = absurd (omega arith)
 
 -- ---- octets with their CRC
@@ -104,14 +104,14 @@ module _ (l : List ℕ) where
   unfolding payload with_crc
   payload_back = take_at l (four_octets (crc_of l)) _ seam
 
-  crc-lt : crc_of l < 4294967296
+  crc_lt : crc_of l < 4294967296
   unfolding crc_of
-  crc-lt = omega arith
+  crc_lt = omega arith
 
   pub crc_right_lem : crc_right (with_crc l) ≡ true
   unfolding crc_right payload with_crc
   crc_right_lem =
-      let n = number_back (crc_of l) crc-lt in
+      let n = number_back (crc_of l) crc_lt in
       let d = drop_at l (four_octets (crc_of l)) _ seam in
       let long : 4 ≤ length (l ++ four_octets (crc_of l)) = omega (arith, length_crc l) in
       rw (le-leb 4 _ long) (eq-eqb _ _ (ap crc_of payload_back ∙ sym (ap number d ∙ n)))

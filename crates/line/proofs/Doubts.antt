@@ -56,31 +56,31 @@ module _ (k i v : ℕ) (x : List ℕ) (h : k < kinds) (place : i < 4) (changed :
   abbrev line : List ℕ
   line = set (set_of k) i v ++ x
 
-  four-long : length (set (set_of k) i v) ≡ 4
-  four-long = length-set (set_of k) i v ∙ set_length k h
+  four_long : length (set (set_of k) i v) ≡ 4
+  four_long = length-set (set_of k) i v ∙ set_length k h
 
-  line-long : 4 ≤ length line
-  line-long = omega (arith, length-append (set (set_of k) i v) x, four-long)
+  line_long : 4 ≤ length line
+  line_long = omega (arith, length-append (set (set_of k) i v) x, four_long)
 
-  symbol-at : (j : ℕ) → j < 4 → get_or line j 0 ≡ get_or (set (set_of k) i v) j 0
-  symbol-at j w = get_or-append (set (set_of k) i v) x 0 j (omega (arith, four-long))
+  symbol_at : (j : ℕ) → j < 4 → get_or line j 0 ≡ get_or (set (set_of k) i v) j 0
+  symbol_at j w = get_or-append (set (set_of k) i v) x 0 j (omega (arith, four_long))
 
-  near-set : InThree line k
-  near-set =
+  near_set : InThree line k
+  near_set =
       let n = set_length k h in
       record {
         kind = h;
         wrong = i;
         within = place;
-        differs = λ e. changed (sym (symbol-at i place ∙ get_or-set_same (set_of k) i v 0 (omega arith)) ∙ e);
-        agrees = λ j w ne. symbol-at j w ∙ get_or-set_other (set_of k) i j v 0 ne;
+        differs = λ e. changed (sym (symbol_at i place ∙ get_or-set_same (set_of k) i v 0 (omega arith)) ∙ e);
+        agrees = λ j w ne. symbol_at j w ∙ get_or-set_other (set_of k) i j v 0 ne;
       }
 
-  changed-once : Nearly line k ⊎ Doubtful line
-  changed-once = three_or line line-long k near-set (λ j e. exact_far line j k e near-set)
+  changed_once : Nearly line k ⊎ Doubtful line
+  changed_once = three_or line line_long k near_set (λ j e. exact_far line j k e near_set)
 
 pub one_changed : OneChanged
-one_changed = changed-once
+one_changed = changed_once
 
 -- ---- 5. Several kinds: refused
 
@@ -163,8 +163,8 @@ module _ (l : List ℕ) (d : Doubtful l) where
   abbrev p : ℕ
   p = d.with_one.wrong
 
-  set-one : length (set_of j) ≡ 4
-  set-one = set_length j d.with_one.kind
+  set_one : length (set_of j) ≡ 4
+  set_one = set_length j d.with_one.kind
 
   set_other : length (set_of k) ≡ 4
   set_other = set_length k d.with_other.kind
@@ -174,21 +174,21 @@ module _ (l : List ℕ) (d : Doubtful l) where
   elsewhere e =
       let two = apart j k d.with_one.kind d.with_other.kind d.apart in
       elim (ℕ_discrete (get_or (set_of k) p 0) (get_or (set_of j) p 0)) [
-        | yes q ↦ omega (arith, set-one, set_other, all_agree (set_of j) (set_of k) (omega (arith, set-one, set_other)) (everywhere q))
+        | yes q ↦ omega (arith, set_one, set_other, all_agree (set_of j) (set_of k) (omega (arith, set_one, set_other)) (everywhere q))
         | no q ↦
             let w = d.with_one.within in
             omega (
               arith,
-              set-one,
+              set_one,
               set_other,
-              less_one (set_of j) (set_of k) (omega (arith, set-one, set_other))
-                  (record { wrong = p; within = omega (arith, set-one); differs = q; agrees = beside }),
+              less_one (set_of j) (set_of k) (omega (arith, set_one, set_other))
+                  (record { wrong = p; within = omega (arith, set_one); differs = q; agrees = beside }),
             )
       ]
     where
       beside : (i : ℕ) → i < length (set_of j) → (i ≡ p → ⊥) → get_or (set_of k) i 0 ≡ get_or (set_of j) i 0
       beside i h ne =
-          let w : i < 4 = omega (arith, set-one) in
+          let w : i < 4 = omega (arith, set_one) in
           sym (d.with_other.agrees i w (λ q. ne (q ∙ sym e))) ∙ d.with_one.agrees i w ne
 
       everywhere : get_or (set_of k) p 0 ≡ get_or (set_of j) p 0 → (i : ℕ) → i < length (set_of j) → get_or (set_of k) i 0 ≡ get_or (set_of j) i 0
@@ -202,7 +202,7 @@ module _ (l : List ℕ) (d : Doubtful l) where
   unfolding set_with
   front =
       let n = length-take-le 4 l d.four in
-      ext_get_or 0 (take 4 l) (set_with j k p) (n ∙ sym (length-set (set_of j) p (get_or (set_of k) p 0) ∙ set-one)) (λ i h. each i (omega arith))
+      ext_get_or 0 (take 4 l) (set_with j k p) (n ∙ sym (length-set (set_of j) p (get_or (set_of k) p 0) ∙ set_one)) (λ i h. each i (omega arith))
     where
       each : (i : ℕ) → i < 4 → get_or (take 4 l) i 0 ≡ get_or (set_with j k p) i 0
       each i h =
@@ -210,7 +210,7 @@ module _ (l : List ℕ) (d : Doubtful l) where
           ∙ elim (ℕ_discrete i p) [
             | yes s ↦
                 subst (λ (m : ℕ). get_or l m 0 ≡ get_or (set_with j k p) m 0) (sym s)
-                (d.with_other.agrees p d.with_one.within elsewhere ∙ sym (get_or-set_same (set_of j) p (get_or (set_of k) p 0) 0 (omega (arith, set-one, d.with_one.within))))
+                (d.with_other.agrees p d.with_one.within elsewhere ∙ sym (get_or-set_same (set_of j) p (get_or (set_of k) p 0) 0 (omega (arith, set_one, d.with_one.within))))
             | no s ↦ d.with_one.agrees i h s ∙ sym (get_or-set_other (set_of j) p i (get_or (set_of k) p 0) 0 s)
           ]
 
@@ -222,9 +222,9 @@ module _ (l : List ℕ) (d : Doubtful l) where
       ∙ ap (agree (set_of k)) (take-append-drop 4 l)
       ∙ three_is l d.four k d.with_other.kind d.with_other
 
-  doubtful-among : Among (take 4 l) doubtful_sets
+  doubtful_among : Among (take 4 l) doubtful_sets
   unfolding is_listed
-  doubtful-among =
+  doubtful_among =
       go (eqb j k) refl (leb (agree (set_of k) (set_with j k p)) 2) refl (listed j k p d.with_one.kind d.with_other.kind d.with_one.within)
     where
       go : (a : Bool) → eqb j k ≡ a → (b : Bool) → leb (agree (set_of k) (set_with j k p)) 2 ≡ b
@@ -236,4 +236,4 @@ module _ (l : List ℕ) (d : Doubtful l) where
           subst (λ (x : List ℕ). Among x doubtful_sets) (sym front) (some_among (set_with j k p) doubtful_sets (sym (ap length front) ∙ n) t)
 
 pub doubtful_exactly : DoubtfulExactly
-doubtful_exactly l long = (doubtful-among l, among_doubtful l long)
+doubtful_exactly l long = (doubtful_among l, among_doubtful l long)

@@ -78,9 +78,9 @@ intact line s st w e =
     record { frame = unsealed s; whole = w; seals = e; rest = st.rest; is = st.is ∙ ap (λ (t : Shape). drawn t ++ st.rest) e }
 
 module _ (line : List ℕ) (s : Shape) (st : Stands Shaped drawn line s) where
-  right-means : s.kind < sop_kinds → Sized s.octets → crc_right s.octets ≡ true → Intact line s
+  right_means : s.kind < sop_kinds → Sized s.octets → crc_right s.octets ≡ true → Intact line s
   unfolding sealed unsealed carries
-  right-means h z e =
+  right_means h z e =
       let m = s.octets in
       let lo = z.many in
       let hi = z.few in
@@ -90,8 +90,8 @@ module _ (line : List ℕ) (s : Shape) (st : Stands Shaped drawn line s) where
       (Whole.message h (octets_payload m z.octets) (omega arith) (omega arith))
       (rw (lt-ltb s.kind sop_kinds h) (λ i. record { kind = s.kind; octets = there i }))
 
-  wrong-means : s.kind < sop_kinds → crc_right s.octets ≡ false → Spoilt line (4 + 2 * length s.octets)
-  wrong-means h e =
+  wrong_means : s.kind < sop_kinds → crc_right s.octets ≡ false → Spoilt line (4 + 2 * length s.octets)
+  wrong_means h e =
       record {
         shape = s;
         shaped = st.right;
@@ -102,24 +102,24 @@ module _ (line : List ℕ) (s : Shape) (st : Stands Shaped drawn line s) where
         before_end = sym (length_drawn s h);
       }
 
-  message-means : (exact : Bool) → s.kind < sop_kinds → Sized s.octets → (b : Bool) → crc_right s.octets ≡ b
+  message_means : (exact : Bool) → s.kind < sop_kinds → Sized s.octets → (b : Bool) → crc_right s.octets ≡ b
       → Meaning line (cond b (frame (record { shape = s; exact = exact })) (wrong_crc (4 + 2 * length s.octets)))
   unfolding Meaning
-  message-means exact h z true e = right-means h z e
-  message-means exact h z false e = wrong-means h e
+  message_means exact h z true e = right_means h z e
+  message_means exact h z false e = wrong_means h e
 
-  alone-means : sop_kinds ≤ s.kind → s.kind < kinds → s.octets ≡ [] → Intact line s
+  alone_means : sop_kinds ≤ s.kind → s.kind < kinds → s.octets ≡ [] → Intact line s
   unfolding sealed unsealed carries payload
-  alone-means h k e =
+  alone_means h k e =
       intact line s st
       (Whole.alone h k (ap payload e))
       (rw (le-ltb s.kind sop_kinds h) (λ i. record { kind = s.kind; octets = e i }))
 
-  stands-means : (exact : Bool) → Shaped s → Meaning line (checked exact s)
+  stands_means : (exact : Bool) → Shaped s → Meaning line (checked exact s)
   unfolding Meaning checked carries
-  stands-means exact (Shaped.message h o lo hi) =
-      rw (lt-ltb s.kind sop_kinds h) (message-means exact h (record { octets = o; many = lo; few = hi }) (crc_right s.octets) refl)
-  stands-means exact (Shaped.alone h k e) = rw (le-ltb s.kind sop_kinds h) (alone-means h k e)
+  stands_means exact (Shaped.message h o lo hi) =
+      rw (lt-ltb s.kind sop_kinds h) (message_means exact h (record { octets = o; many = lo; few = hi }) (crc_right s.octets) refl)
+  stands_means exact (Shaped.alone h k e) = rw (le-ltb s.kind sop_kinds h) (alone_means h k e)
 
 -- ---- beginnings of shapes
 
@@ -181,17 +181,17 @@ means line k e =
     (go (shape_behind k (drop 4 line)) (shape_says k (drop 4 line) e.kind)))
   where
     go : (r : Look Shape) → Says Shaped drawn (set_of k ++ drop 4 line) r → Meaning (set_of k ++ drop 4 line) (first_of true r)
-    go (found s) st = stands-means (set_of k ++ drop 4 line) s st true st.right
+    go (found s) st = stands_means (set_of k ++ drop 4 line) s st true st.right
     go (short p) t = (part_cut t.0, t.1)
     go (misfit p) t = (t.within, ends_longest (set_of k ++ drop 4 line) p t)
 
 module _ (line : List ℕ) where
-  intact-answer : (s : Shape) → Intact line s → first line ≡ frame (exact_frame s)
-  intact-answer s h = ap first h.is ∙ reads_back h.frame h.rest h.whole ∙ ap (λ (t : Shape). frame (exact_frame t)) (sym h.seals)
+  intact_answer : (s : Shape) → Intact line s → first line ≡ frame (exact_frame s)
+  intact_answer s h = ap first h.is ∙ reads_back h.frame h.rest h.whole ∙ ap (λ (t : Shape). frame (exact_frame t)) (sym h.seals)
 
-  spoilt-answer : (p : ℕ) → Spoilt line p → first line ≡ wrong_crc p
+  spoilt_answer : (p : ℕ) → Spoilt line p → first line ≡ wrong_crc p
   unfolding checked carries
-  spoilt-answer p t =
+  spoilt_answer p t =
       let s = t.shape in
       let e = t.before_end in
       let n = length_drawn s t.sop in
@@ -207,12 +207,12 @@ module _ (line : List ℕ) where
       wrong false e = e
 
   module _ (k : ℕ) (exact : Exactly line k) where
-    answer-means : (f : First) → first line ≡ f → Meaning line f
-    answer-means f e = subst (Meaning line) e (means line k exact)
+    answer_means : (f : First) → first line ≡ f → Meaning line f
+    answer_means f e = subst (Meaning line) e (means line k exact)
 
-    cut-answer : Cut line → first line ≡ too_short (length line)
+    cut_answer : Cut line → first line ≡ too_short (length line)
     unfolding Meaning
-    cut-answer c = go (first line) (means line k exact)
+    cut_answer c = go (first line) (means line k exact)
       where
         go : (f : First) → Meaning line f → f ≡ too_short (length line)
         go (frame r) m = absurd (whole_uncut (intact_stands m) c)
@@ -223,9 +223,9 @@ module _ (line : List ℕ) where
             let h = m.0 in
             absurd (omega (arith, m.1.most (length line) (omega arith) begins))
 
-    nothing-answer : (p : ℕ) → Unframed p line → first line ≡ no_frame p
+    nothing_answer : (p : ℕ) → Unframed p line → first line ≡ no_frame p
     unfolding Meaning
-    nothing-answer p b = go (first line) (means line k exact)
+    nothing_answer p b = go (first line) (means line k exact)
       where
         go : (f : First) → Meaning line f → f ≡ no_frame p
         go (frame r) m = absurd (b.unintact r.shape m)
@@ -238,14 +238,14 @@ module _ (line : List ℕ) where
             ap no_frame e
 
     -- where the answer is no_frame, what the other answers mean is not so
-    nothing-means : (p : ℕ) → first line ≡ no_frame p → Unframed p line
+    nothing_means : (p : ℕ) → first line ≡ no_frame p → Unframed p line
     unfolding Meaning
-    nothing-means p e =
+    nothing_means p e =
         record {
-          unintact = λ s h. let f = intact-answer s h in let z : ◌≡◌ {A = ℕ} 0 1 = cc in omega arith;
-          unspoilt = λ q t. let f = spoilt-answer q t in let z : ◌≡◌ {A = ℕ} 0 1 = cc in omega arith;
-          uncut = λ c. let f = cut-answer c in let z : ◌≡◌ {A = ℕ} 0 1 = cc in omega arith;
-          longest = (answer-means (no_frame p) e).1;
+          unintact = λ s h. let f = intact_answer s h in let z : ◌≡◌ {A = ℕ} 0 1 = cc in omega arith;
+          unspoilt = λ q t. let f = spoilt_answer q t in let z : ◌≡◌ {A = ℕ} 0 1 = cc in omega arith;
+          uncut = λ c. let f = cut_answer c in let z : ◌≡◌ {A = ℕ} 0 1 = cc in omega arith;
+          longest = (answer_means (no_frame p) e).1;
         }
 
 -- ---- a set that is taken, as if it had been exact
@@ -271,25 +271,25 @@ module _ (line : List ℕ) (k : ℕ) (exact : Bool) (t : TakenAs line k exact) w
   kind_of_lem : k < kinds
   kind_of_lem = taken_kind line k exact t
 
-  straight-exact : Exactly (straight k line) k
+  straight_exact : Exactly (straight k line) k
   unfolding straight
-  straight-exact = set_there k (drop 4 line) kind_of_lem
+  straight_exact = set_there k (drop 4 line) kind_of_lem
 
   pub straight_long : length (straight k line) ≡ length line
   unfolding straight
   straight_long =
       omega (arith, length-append (set_of k) (drop 4 line), set_length k kind_of_lem, length-drop 4 line, taken_long line k exact t)
 
-  as-exact : first line ≡ marked exact (first (straight k line))
+  as_exact : first line ≡ marked exact (first (straight k line))
   unfolding straight
-  as-exact =
+  as_exact =
       taken_first line k exact t
       ∙ sym (marked_first exact (shape_behind k (drop 4 line)))
       ∙ ap (λ (l : List ℕ). marked exact (first_of true (shape_behind k l))) (sym (drop_set k (drop 4 line) kind_of_lem))
-      ∙ ap (marked exact) (sym (taken_first (straight k line) k true straight-exact))
+      ∙ ap (marked exact) (sym (taken_first (straight k line) k true straight_exact))
 
 pub reads_as_exact : ReadsAsExact
-reads_as_exact = as-exact
+reads_as_exact = as_exact
 
 -- ---- 2. The reader's answer, exactly when
 
@@ -310,7 +310,7 @@ unfolding first after_set
 by_set line = go (set_at line) refl (set_means line)
   where
     go : (r : Look TakenSet) → set_at line ≡ r → SetMeans line r → BySet line (after_set (set_at line) line)
-    go (found t) e m = set (record { kind = t.kind; exact = t.exact; taken = m }) (as-exact line t.kind t.exact m)
+    go (found t) e m = set (record { kind = t.kind; exact = t.exact; taken = m }) (as_exact line t.kind t.exact m)
     go (short p) e m = few m.0 (rw e (ap too_short m.1))
     go (misfit p) e m = unset m.0 (rw e (ap no_frame m.1))
 
@@ -352,25 +352,25 @@ module _ (line : List ℕ) (t : Taken line) where
   abbrev right : List ℕ
   right = straight t.kind line
 
-  set-there-right : Exactly right t.kind
-  set-there-right = straight-exact line t.kind t.exact t.taken
+  set_there_right : Exactly right t.kind
+  set_there_right = straight_exact line t.kind t.exact t.taken
 
   shows : (f : First) → first right ≡ f → Shows right t.kind t.exact (marked t.exact f)
   unfolding marked Meaning straight
   shows (frame r) e =
-      let i = answer-means right t.kind set-there-right (frame r) e in
-      (i, intact_kind t.kind (drop 4 line) r.shape set-there-right.kind i, refl)
+      let i = answer_means right t.kind set_there_right (frame r) e in
+      (i, intact_kind t.kind (drop 4 line) r.shape set_there_right.kind i, refl)
   shows (wrong_crc p) e = tt
   shows (too_short p) e = tt
   shows (no_frame p) e = tt
 
-  as-if : (P : List ℕ → Type 0) → P right → AsIfExact P line
-  as-if P h = record { kind = t.kind; exact = t.exact; taken = t.taken; holds = h }
+  as_if : (P : List ℕ → Type 0) → P right → AsIfExact P line
+  as_if P h = record { kind = t.kind; exact = t.exact; taken = t.taken; holds = h }
 
 module _ (line : List ℕ) where
-  frame-means : (s : Shape) (exact : Bool) → first line ≡ frame (record { shape = s; exact = exact })
+  frame_means : (s : Shape) (exact : Bool) → first line ≡ frame (record { shape = s; exact = exact })
       → TakenAs line s.kind exact × Intact (straight s.kind line) s
-  frame-means s exact e = go (by_set line)
+  frame_means s exact e = go (by_set line)
     where
       go : BySet line (first line) → TakenAs line s.kind exact × Intact (straight s.kind line) s
       go (few h q) = let z : ◌≡◌ {A = ℕ} 0 1 = cc in absurd (omega arith)
@@ -381,57 +381,57 @@ module _ (line : List ℕ) where
             subst (λ (k : ℕ). Intact (straight k line) s) w.1 w.0,
           )
 
-  frame-answer : (s : Shape) (exact : Bool) → TakenAs line s.kind exact → Intact (straight s.kind line) s
+  frame_answer : (s : Shape) (exact : Bool) → TakenAs line s.kind exact → Intact (straight s.kind line) s
       → first line ≡ frame (record { shape = s; exact = exact })
   unfolding marked
-  frame-answer s exact t i = as-exact line s.kind exact t ∙ ap (marked exact) (intact-answer (straight s.kind line) s i)
+  frame_answer s exact t i = as_exact line s.kind exact t ∙ ap (marked exact) (intact_answer (straight s.kind line) s i)
 
-  wrong-means-taken : (p : ℕ) → first line ≡ wrong_crc p → AsIfExact (λ l. Spoilt l p) line
+  wrong_means_taken : (p : ℕ) → first line ≡ wrong_crc p → AsIfExact (λ l. Spoilt l p) line
   unfolding Meaning
-  wrong-means-taken p e = go (by_set line)
+  wrong_means_taken p e = go (by_set line)
     where
       go : BySet line (first line) → AsIfExact (λ l. Spoilt l p) line
       go (few h q) = let z : ◌≡◌ {A = ℕ} 0 1 = cc in absurd (omega arith)
       go (unset u q) = let z : ◌≡◌ {A = ℕ} 0 1 = cc in absurd (omega arith)
-      go (set t q) = as-if line t (λ l. Spoilt l p) (answer-means (straight t.kind line) t.kind (set-there-right line t) (wrong_crc p) (marked_wrong t.exact _ p (sym q ∙ e)))
+      go (set t q) = as_if line t (λ l. Spoilt l p) (answer_means (straight t.kind line) t.kind (set_there_right line t) (wrong_crc p) (marked_wrong t.exact _ p (sym q ∙ e)))
 
   wrong_answer : (p : ℕ) → AsIfExact (λ l. Spoilt l p) line → first line ≡ wrong_crc p
   unfolding marked
-  wrong_answer p a = as-exact line a.kind a.exact a.taken ∙ ap (marked a.exact) (spoilt-answer (straight a.kind line) p a.holds)
+  wrong_answer p a = as_exact line a.kind a.exact a.taken ∙ ap (marked a.exact) (spoilt_answer (straight a.kind line) p a.holds)
 
-  short-means : (p : ℕ) → first line ≡ too_short p → ((length line < 4) ⊎ AsIfExact Cut line) × (p ≡ length line)
+  short_means : (p : ℕ) → first line ≡ too_short p → ((length line < 4) ⊎ AsIfExact Cut line) × (p ≡ length line)
   unfolding Meaning
-  short-means p e = go (by_set line)
+  short_means p e = go (by_set line)
     where
       go : BySet line (first line) → ((length line < 4) ⊎ AsIfExact Cut line) × (p ≡ length line)
       go (few h q) = let same : p ≡ length line = cc in (inl h, same)
       go (unset u q) = let z : ◌≡◌ {A = ℕ} 0 1 = cc in absurd (omega arith)
       go (set t q) =
-          let m = answer-means (straight t.kind line) t.kind (set-there-right line t) (too_short p) (marked_short t.exact _ p (sym q ∙ e)) in
-          (inr (as-if line t Cut m.0), m.1 ∙ straight_long line t.kind t.exact t.taken)
+          let m = answer_means (straight t.kind line) t.kind (set_there_right line t) (too_short p) (marked_short t.exact _ p (sym q ∙ e)) in
+          (inr (as_if line t Cut m.0), m.1 ∙ straight_long line t.kind t.exact t.taken)
 
-  short-answer : (p : ℕ) → (length line < 4) ⊎ AsIfExact Cut line → p ≡ length line → first line ≡ too_short p
+  short_answer : (p : ℕ) → (length line < 4) ⊎ AsIfExact Cut line → p ≡ length line → first line ≡ too_short p
   unfolding first after_set marked
-  short-answer p (inl h) e = ap (λ (r : Look TakenSet). after_set r line) (short_set line h) ∙ ap too_short (sym e)
-  short-answer p (inr a) e =
-      as-exact line a.kind a.exact a.taken
-      ∙ ap (marked a.exact) (cut-answer (straight a.kind line) a.kind (straight-exact line a.kind a.exact a.taken) a.holds)
+  short_answer p (inl h) e = ap (λ (r : Look TakenSet). after_set r line) (short_set line h) ∙ ap too_short (sym e)
+  short_answer p (inr a) e =
+      as_exact line a.kind a.exact a.taken
+      ∙ ap (marked a.exact) (cut_answer (straight a.kind line) a.kind (straight_exact line a.kind a.exact a.taken) a.holds)
       ∙ ap too_short (straight_long line a.kind a.exact a.taken ∙ sym e)
 
-  none-means : (p : ℕ) → first line ≡ no_frame p → (Untaken line × (p ≡ 0)) ⊎ AsIfExact (Unframed p) line
-  none-means p e = go (by_set line)
+  none_means : (p : ℕ) → first line ≡ no_frame p → (Untaken line × (p ≡ 0)) ⊎ AsIfExact (Unframed p) line
+  none_means p e = go (by_set line)
     where
       go : BySet line (first line) → (Untaken line × (p ≡ 0)) ⊎ AsIfExact (Unframed p) line
       go (few h q) = let z : ◌≡◌ {A = ℕ} 0 1 = cc in absurd (omega arith)
       go (unset u q) = let same : p ≡ 0 = cc in inl (u, same)
-      go (set t q) = inr (as-if line t (Unframed p) (nothing-means (straight t.kind line) t.kind (set-there-right line t) p (marked_none t.exact _ p (sym q ∙ e))))
+      go (set t q) = inr (as_if line t (Unframed p) (nothing_means (straight t.kind line) t.kind (set_there_right line t) p (marked_none t.exact _ p (sym q ∙ e))))
 
-  none-answer : (p : ℕ) → (Untaken line × (p ≡ 0)) ⊎ AsIfExact (Unframed p) line → first line ≡ no_frame p
+  none_answer : (p : ℕ) → (Untaken line × (p ≡ 0)) ⊎ AsIfExact (Unframed p) line → first line ≡ no_frame p
   unfolding first after_set marked
-  none-answer p (inl u) = ap (λ (r : Look TakenSet). after_set r line) (untaken_set line u.0) ∙ ap no_frame (sym u.1)
-  none-answer p (inr a) =
-      as-exact line a.kind a.exact a.taken
-      ∙ ap (marked a.exact) (nothing-answer (straight a.kind line) a.kind (straight-exact line a.kind a.exact a.taken) p a.holds)
+  none_answer p (inl u) = ap (λ (r : Look TakenSet). after_set r line) (untaken_set line u.0) ∙ ap no_frame (sym u.1)
+  none_answer p (inr a) =
+      as_exact line a.kind a.exact a.taken
+      ∙ ap (marked a.exact) (nothing_answer (straight a.kind line) a.kind (straight_exact line a.kind a.exact a.taken) p a.holds)
 
 -- the place of no frame is one of the record's
 pub none_place : (line : List ℕ) (p : ℕ) → first line ≡ no_frame p → p < length line
@@ -442,23 +442,23 @@ none_place line p e = go (by_set line)
     go (few h q) = let z : ◌≡◌ {A = ℕ} 0 1 = cc in absurd (omega arith)
     go (unset u q) = let same : p ≡ 0 = cc in omega (arith, u.four)
     go (set t q) =
-        let m = answer-means (straight t.kind line) t.kind (set-there-right line t) (no_frame p) (marked_none t.exact _ p (sym q ∙ e)) in
+        let m = answer_means (straight t.kind line) t.kind (set_there_right line t) (no_frame p) (marked_none t.exact _ p (sym q ∙ e)) in
         omega (arith, m.0, straight_long line t.kind t.exact t.taken)
 
 pub frame_exactly : FrameExactly
-frame_exactly line s exact = (frame-means line s exact, λ h. frame-answer line s exact h.0 h.1)
+frame_exactly line s exact = (frame_means line s exact, λ h. frame_answer line s exact h.0 h.1)
 
 pub exact_frame_exactly : ExactFrameExactly
 exact_frame_exactly line s = (
-  λ e. let m = frame-means line s true e in subst (λ (l : List ℕ). Intact l s) (exact_stays line s.kind m.0) m.1,
-  intact-answer line s,
+  λ e. let m = frame_means line s true e in subst (λ (l : List ℕ). Intact l s) (exact_stays line s.kind m.0) m.1,
+  intact_answer line s,
 )
 
 pub wrong_crc_exactly : WrongCrcExactly
-wrong_crc_exactly line p = (wrong-means-taken line p, wrong_answer line p)
+wrong_crc_exactly line p = (wrong_means_taken line p, wrong_answer line p)
 
 pub too_short_exactly : TooShortExactly
-too_short_exactly line p = (short-means line p, λ h. short-answer line p h.0 h.1)
+too_short_exactly line p = (short_means line p, λ h. short_answer line p h.0 h.1)
 
 pub no_frame_exactly : NoFrameExactly
-no_frame_exactly line p = (none-means line p, none-answer line p)
+no_frame_exactly line p = (none_means line p, none_answer line p)

@@ -86,37 +86,37 @@ module _ (l : List ℕ) (near count k : ℕ) (st : Tried l near count k) (long :
     row = drop-cons ordered_sets k [] h
 
     module _ (s : List ℕ) (n : ℕ) (es : s ≡ set_of k) (en : n ≡ agree s l) where
-      of-set : agree (set_of k) l ≡ n
-      of-set = ap (λ (x : List ℕ). agree x l) (sym es) ∙ sym en
+      of_set : agree (set_of k) l ≡ n
+      of_set = ap (λ (x : List ℕ). agree x l) (sym es) ∙ sym en
 
       pub is_set : n ≡ 4 → found (record { kind = k; exact = true }) ≡ set_at l
       unfolding kind_from taken_or
       is_set e =
-          let four : common (set_of k) l ≡ 4 = all_common (set_of k) l (of-set ∙ e ∙ sym (set_length k h)) ∙ set_length k h in
+          let four : common (set_of k) l ≡ 4 = all_common (set_of k) l (of_set ∙ e ∙ sym (set_length k h)) ∙ set_length k h in
           let o : kind_from k (set_of k ∷ drop (suc k) ordered_sets) l ≡ some k = simp (eq-eqb _ 4 four) in
           let kind : kind_from 0 ordered_sets l ≡ some k = st.left ∙ ap (λ (ss : List (List ℕ)). kind_from k ss l) row ∙ o in
           sym (taken_at ∙ ap (λ (o : Option ℕ). taken_or o (agreeing 0 ordered_sets l)) kind)
 
       module _ (other : n ≡ 4 → ⊥) where
-        left-on : kind_from 0 ordered_sets l ≡ kind_from (suc k) (drop (suc k) ordered_sets) l
+        left_on : kind_from 0 ordered_sets l ≡ kind_from (suc k) (drop (suc k) ordered_sets) l
         unfolding kind_from
-        left-on =
+        left_on =
             let not-four : common (set_of k) l ≡ 4 → ⊥ =
-            λ e. other (sym of-set ∙ common_all (set_of k) l (e ∙ sym (set_length k h)) ∙ set_length k h) in
+            λ e. other (sym of_set ∙ common_all (set_of k) l (e ∙ sym (set_length k h)) ∙ set_length k h) in
             st.left ∙ ap (λ (ss : List (List ℕ)). kind_from k ss l) row ∙ simp (ne_eqb (common (set_of k) l) 4 not-four)
 
         -- one more agrees in three places
-        next-near : n ≡ 3 → Tried l k (count + 1) (k + 1)
+        next_near : n ≡ 3 → Tried l k (count + 1) (k + 1)
         unfolding agreeing
-        next-near e =
+        next_near e =
             let f = st.few in
             let m = st.many in
             let all : agreeing k (drop k ordered_sets) l ≡ k ∷ agreeing (suc k) (drop (suc k) ordered_sets) l =
-            ap (λ (ss : List (List ℕ)). agreeing k ss l) row ∙ simp (eq-eqb (agree (set_of k) l) 3 (of-set ∙ e)) in
+            ap (λ (ss : List (List ℕ)). agreeing k ss l) row ∙ simp (eq-eqb (agree (set_of k) l) 3 (of_set ∙ e)) in
             record {
               below = omega arith;
               few = omega arith;
-              left = rw add-one left-on;
+              left = rw add-one left_on;
               so_far = st.so_far ++ (k ∷ []);
               three =
                   rw add-one
@@ -127,16 +127,16 @@ module _ (l : List ℕ) (near count k : ℕ) (st : Tried l near count k) (long :
               only = λ one. ap (λ (x : List ℕ). x ++ (k ∷ [])) (empty st.so_far (omega arith));
             }
 
-        next-far : (n ≡ 3 → ⊥) → Tried l near count (k + 1)
+        next_far : (n ≡ 3 → ⊥) → Tried l near count (k + 1)
         unfolding agreeing
-        next-far e =
+        next_far e =
             let f = st.few in
             let all : agreeing k (drop k ordered_sets) l ≡ agreeing (suc k) (drop (suc k) ordered_sets) l =
-            ap (λ (ss : List (List ℕ)). agreeing k ss l) row ∙ simp (ne_eqb (agree (set_of k) l) 3 (λ w. e (sym of-set ∙ w))) in
+            ap (λ (ss : List (List ℕ)). agreeing k ss l) row ∙ simp (ne_eqb (agree (set_of k) l) 3 (λ w. e (sym of_set ∙ w))) in
             record {
               below = omega arith;
               few = omega arith;
-              left = rw add-one left-on;
+              left = rw add-one left_on;
               so_far = st.so_far;
               three = rw add-one (st.three ∙ ap (λ (x : List ℕ). st.so_far ++ x) all);
               many = st.many;
@@ -146,8 +146,8 @@ module _ (l : List ℕ) (near count k : ℕ) (st : Tried l near count k) (long :
         -- after the test, whichever way it went
         pub next_kind : (near' count' : ℕ) → ((n ≡ 3) × (near' ≡ k) × (count' ≡ count + 1)) ⊎ ((n ≡ 3 → ⊥) × (near' ≡ near) × (count' ≡ count))
             → Tried l near' count' (k + 1)
-        next_kind near' count' (inl t) = rw (t.1, t.2) (next-near t.0)
-        next_kind near' count' (inr t) = rw (t.1, t.2) (next-far t.0)
+        next_kind near' count' (inl t) = rw (t.1, t.2) (next_near t.0)
+        next_kind near' count' (inr t) = rw (t.1, t.2) (next_far t.0)
 
   module _ (h : kinds ≤ k) where
     by_near : set_at l ≡ single st.so_far

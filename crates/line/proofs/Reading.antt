@@ -121,23 +121,23 @@ module _ (body : List ℕ) (n : ℕ) (h : 2 * n ≤ nibble_run 68 body) where
 
 module _ (array held : List ℕ) (s : Shape) (n : ℕ) (long : length s.octets ≡ n) (room : n ≤ length array)
     (gets : held ≡ sets array 0 s.octets) where
-  held-is : take n held ≡ s.octets
-  held-is = ap (take n) (gets ∙ sets_front s.octets array (omega arith)) ∙ take_at s.octets (drop (length s.octets) array) n long
+  held_is : take n held ≡ s.octets
+  held_is = ap (take n) (gets ∙ sets_front s.octets array (omega arith)) ∙ take_at s.octets (drop (length s.octets) array) n long
 
   module _ (at : ℕ) (exact : Bool) (sop : s.kind < sop_kinds) (before : List ℕ) (lent : n ≤ length before) (b : Bool) (e : b ≡ crc_right (take n held)) where
     abbrev read : ReadFrame
     read = record { shape = s; exact = exact }
 
-    by-crc : checked exact s ≡ cond b (frame read) (wrong_crc (4 + 2 * n))
+    by_crc : checked exact s ≡ cond b (frame read) (wrong_crc (4 + 2 * n))
     unfolding checked
-    by-crc =
+    by_crc =
         ap (λ (t : Bool). cond t (cond (crc_right s.octets) (frame read) (wrong_crc (4 + 2 * length s.octets))) (frame read)) (carrying s.kind sop)
-        ∙ ap₂ (λ (t : Bool) (i : ℕ). cond t (frame read) (wrong_crc (4 + 2 * i))) (sym (e ∙ ap crc_right held-is)) long
+        ∙ ap₂ (λ (t : Bool) (i : ℕ). cond t (frame read) (wrong_crc (4 + 2 * i))) (sym (e ∙ ap crc_right held_is)) long
 
     pub crc_wrong : b ≡ false → Tells at (checked exact s) before (WrongCrc (4 + 2 * n)) before
     unfolding says_of filled
     crc_wrong f =
-        let q : checked exact s ≡ wrong_crc (4 + 2 * n) = by-crc ∙ rw f refl in
+        let q : checked exact s ≡ wrong_crc (4 + 2 * n) = by_crc ∙ rw f refl in
         rw q (record { says = refl; leaves = refl })
 
     pub crc_agrees : b ≡ true → (after : List ℕ) → after ≡ sets before 0 (take n held)
@@ -145,11 +145,11 @@ module _ (array held : List ℕ) (s : Shape) (n : ℕ) (long : length s.octets �
     unfolding says_of filled
     crc_agrees f after g =
         let d = length_drawn s sop in
-        let q : checked exact s ≡ frame read = by-crc ∙ rw f refl in
+        let q : checked exact s ≡ frame read = by_crc ∙ rw f refl in
         rw q
         (record {
           says = ap₂ (was_read s.kind exact) (sym long) (omega arith);
-          leaves = g ∙ ap (sets before 0) held-is ∙ sets_front s.octets before (omega arith);
+          leaves = g ∙ ap (sets before 0) held_is ∙ sets_front s.octets before (omega arith);
         })
 
 -- ---- what follows a set
@@ -172,14 +172,14 @@ module _ (at k : ℕ) (exact : Bool) (body before : List ℕ) (n : ℕ) (e : n �
       rw (body_is ∙ q) (record { says = refl; leaves = refl })
 
   module _ (more : n ≡ length body → ⊥) (b : Bool) (t : b ≡ may_end n (get_or body n 0)) where
-    at-end : end_or n body ≡ cond b (found (octets_of (take n body))) (misfit n)
+    at_end : end_or n body ≡ cond b (found (octets_of (take n body))) (misfit n)
     unfolding end_or
-    at-end = simp (ne_eqb n (length body) more, ← t)
+    at_end = simp (ne_eqb n (length body) more, ← t)
 
     pub body_misfit : b ≡ false → Tells at (first_of exact (with_set k (body_at body))) before (NoFrame (4 + n)) before
     unfolding with_set first_of says_of filled
     body_misfit f =
-        let q : end_or n body ≡ misfit n = at-end ∙ simp f in
+        let q : end_or n body ≡ misfit n = at_end ∙ simp f in
         rw (body_is ∙ q) (record { says = refl; leaves = refl })
 
     module _ (f : b ≡ true) where
@@ -194,17 +194,17 @@ module _ (at k : ℕ) (exact : Bool) (body before : List ℕ) (n : ℕ) (e : n �
           → Tells at (first_of exact (with_set k (body_at body))) before r after
       unfolding with_set first_of
       body_whole r after h =
-          let q : end_or n body ≡ found (octets_of (take n body)) = at-end ∙ simp f in
+          let q : end_or n body ≡ found (octets_of (take n body)) = at_end ∙ simp f in
           rw (body_is ∙ q) (rw pairs at h)
 
 -- ---- a set is taken
 
 module _ (l : List ℕ) (start : Start) (r : start_of start ≡ set_at l) (k : ℕ) (exact : Bool) (e : start ≡ Set k exact) where
-  set-taken : TakenAs l k exact
-  set-taken = subst (SetMeans l) (sym r ∙ ap start_of e) (set_means l)
+  set_taken : TakenAs l k exact
+  set_taken = subst (SetMeans l) (sym r ∙ ap start_of e) (set_means l)
 
   pub set_fits : 4 ≤ length l
-  set_fits = taken_long l k exact set-taken
+  set_fits = taken_long l k exact set_taken
 
 -- ---- the ways out
 
@@ -217,29 +217,29 @@ module _ (line before : List ℕ) (at : ℕ) (room : octet_room ≤ length befor
       record { says = rw (le-ltb (length before) octet_room room) t.says; leaves = rw (le-ltb (length before) octet_room room) t.leaves }
 
   module _ (start : Start) (r : start_of start ≡ set_at (drop at line)) where
-    first-is : first (drop at line) ≡ after_set (start_of start) (drop at line)
+    first_is : first (drop at line) ≡ after_set (start_of start) (drop at line)
     unfolding first
-    first-is = ap (λ (x : Look TakenSet). after_set x (drop at line)) (sym r)
+    first_is = ap (λ (x : Look TakenSet). after_set x (drop at line)) (sym r)
 
     pub set_short : (p : ℕ) → start ≡ Short p → Reads line at before (TooShort p) before
     unfolding after_set says_of filled
-    set_short p e = by (TooShort p) before (rw (first-is, e) (record { says = refl; leaves = refl }))
+    set_short p e = by (TooShort p) before (rw (first_is, e) (record { says = refl; leaves = refl }))
 
     pub set_misfit : start ≡ Misfit → Reads line at before (NoFrame 0) before
     unfolding after_set says_of filled
-    set_misfit e = by (NoFrame 0) before (rw (first-is, e) (record { says = refl; leaves = refl }))
+    set_misfit e = by (NoFrame 0) before (rw (first_is, e) (record { says = refl; leaves = refl }))
 
     module _ (k : ℕ) (exact : Bool) (e : start ≡ Set k exact) where
       pub set_alone : sop_kinds ≤ k → Reads line at before (Frame k exact 0 (record { at = at + 4 })) before
       unfolding after_set shape_behind first_of checked says_of filled drawn
       set_alone h =
           let s : Shape = record { kind = k; octets = [] } in
-          let q : first (drop at line) ≡ frame (record { shape = record { kind = k; octets = [] }; exact = exact }) = first-is ∙ simp (e, bare k h) in
-          let kind = taken_kind (drop at line) k exact (set-taken (drop at line) start r k exact e) in
+          let q : first (drop at line) ≡ frame (record { shape = record { kind = k; octets = [] }; exact = exact }) = first_is ∙ simp (e, bare k h) in
+          let kind = taken_kind (drop at line) k exact (set_taken (drop at line) start r k exact e) in
           let n : length (drawn s) ≡ 4 = simp (bare k h, append-nil) (set_length k kind) in
           by _ before (rw q (record { says = ap (λ (i : ℕ). was_read k exact 0 (at + i)) (sym n); leaves = refl }))
 
       pub set_message : k < sop_kinds → (a : Answer) (after : List ℕ)
           → Tells at (first_of exact (with_set k (body_at (drop 4 (drop at line))))) before a after → Reads line at before a after
       unfolding after_set shape_behind
-      set_message h a after t = by a after (rw (first-is, e, carrying k h) t)
+      set_message h a after t = by a after (rw (first_is, e, carrying k h) t)

@@ -101,30 +101,30 @@ module _ (k : ℕ) (sop : k < sop_kinds) where
   shape_of : List ℕ → Shape
   shape_of m = record { kind = k; octets = m }
 
-  shape-right : (m : List ℕ) → Sized m → Shaped (shape_of m)
+  shape_right : (m : List ℕ) → Sized m → Shaped (shape_of m)
   unfolding shape_of
-  shape-right m z = Shaped.message sop z.octets z.many z.few
+  shape_right m z = Shaped.message sop z.octets z.many z.few
 
   shape_is : (m : List ℕ) → drawn (shape_of m) ≡ set_of k ++ body m
   unfolding shape_of
   shape_is m = drawn_message k m sop
 
-  body-begun : (a : List ℕ) → Begun Sized body a → Begun Shaped drawn (set_of k ++ a)
-  body-begun a b =
+  body_begun : (a : List ℕ) → Begun Sized body a → Begun Shaped drawn (set_of k ++ a)
+  body_begun a b =
       record {
         thing = shape_of b.thing;
-        right = shape-right b.thing b.right;
+        right = shape_right b.thing b.right;
         rest = b.rest;
         is = append_assoc (set_of k) a b.rest ∙ ap (λ (x : List ℕ). set_of k ++ x) b.is ∙ sym (shape_is b.thing);
       }
 
-  body-part : (a : List ℕ) → Part Sized body a → Part Shaped drawn (set_of k ++ a)
-  unfolding body-begun
-  body-part a p = record { begun = body-begun a p.begun; more = p.more }
+  body_part : (a : List ℕ) → Part Sized body a → Part Shaped drawn (set_of k ++ a)
+  unfolding body_begun
+  body_part a p = record { begun = body_begun a p.begun; more = p.more }
 
   -- what begins with the set and begins a shape goes on as a body
-  rest-begun : (a : List ℕ) → Begun Shaped drawn (set_of k ++ a) → Begun Sized body a
-  rest-begun a b =
+  rest_begun : (a : List ℕ) → Begun Shaped drawn (set_of k ++ a) → Begun Sized body a
+  rest_begun a b =
       let s = b.thing in
       let e : set_of k ++ (a ++ b.rest) ≡ drawn s = sym (append_assoc (set_of k) a b.rest) ∙ b.is in
       let kind : k ≡ s.kind = same_kind k s (a ++ b.rest) [] (omega arith) b.right (e ∙ sym (append-nil (drawn s))) in
@@ -140,34 +140,34 @@ module _ (k : ℕ) (sop : k < sop_kinds) where
     line : List ℕ
     line = set_of k ++ rest
 
-    take-line : (n : ℕ) → take (4 + n) line ≡ set_of k ++ take n rest
+    take_line : (n : ℕ) → take (4 + n) line ≡ set_of k ++ take n rest
     unfolding line
-    take-line n = ap (λ (x : ℕ). take (x + n) line) (sym (set_length k (omega arith))) ∙ take-append-add (set_of k) rest n
+    take_line n = ap (λ (x : ℕ). take (x + n) line) (sym (set_length k (omega arith))) ∙ take-append-add (set_of k) rest n
 
-    line-long : length line ≡ 4 + length rest
+    line_long : length line ≡ 4 + length rest
     unfolding line
-    line-long = omega (arith, length-append (set_of k) rest, set_length k (omega arith))
+    line_long = omega (arith, length-append (set_of k) rest, set_length k (omega arith))
 
-    body-says-shape : (r : Look (List ℕ)) → Says Sized body rest r → Says Shaped drawn line (with_set k r)
+    body_says_shape : (r : Look (List ℕ)) → Says Sized body rest r → Says Shaped drawn line (with_set k r)
     unfolding with_set line shape_of
-    body-says-shape (found m) s =
+    body_says_shape (found m) s =
         record {
-          right = shape-right m s.right;
+          right = shape_right m s.right;
           rest = s.rest;
           is =
               ap (λ (x : List ℕ). set_of k ++ x) s.is
               ∙ sym (append_assoc (set_of k) (body m) s.rest)
               ∙ ap (λ (x : List ℕ). x ++ s.rest) (sym (shape_is m));
         }
-    body-says-shape (short p) s = let e = s.1 in (body-part rest s.0, omega (arith, line-long))
-    body-says-shape (misfit p) s =
+    body_says_shape (short p) s = let e = s.1 in (body_part rest s.0, omega (arith, line_long))
+    body_says_shape (misfit p) s =
         let w = s.within in
         let one_more : suc (4 + p) ≡ 4 + suc p = omega arith in
-        let next : take (suc (4 + p)) line ≡ set_of k ++ take (suc p) rest = ap (λ (n : ℕ). take n line) one_more ∙ take-line (suc p) in
+        let next : take (suc (4 + p)) line ≡ set_of k ++ take (suc p) rest = ap (λ (n : ℕ). take n line) one_more ∙ take_line (suc p) in
         record {
-          within = omega (arith, line-long);
-          part = subst (Part Shaped drawn) (sym (take-line p)) (body-part (take p rest) s.part);
-          no_more = λ b. s.no_more (rest-begun (take (suc p) rest) (subst (Begun Shaped drawn) next b));
+          within = omega (arith, line_long);
+          part = subst (Part Shaped drawn) (sym (take_line p)) (body_part (take p rest) s.part);
+          no_more = λ b. s.no_more (rest_begun (take (suc p) rest) (subst (Begun Shaped drawn) next b));
         }
 
 -- ---- behind any set
@@ -178,7 +178,7 @@ shape_says k l h = go (ltb k sop_kinds) refl
   where
     go : (b : Bool) → ltb k sop_kinds ≡ b
         → Says Shaped drawn (set_of k ++ l) (cond b (with_set k (body_at l)) (found (record { kind = k; octets = [] })))
-    go true e = body-says-shape k (ltb-true k sop_kinds e) l (body_at l) (body_says l)
+    go true e = body_says_shape k (ltb-true k sop_kinds e) l (body_at l) (body_says l)
     go false e =
         let alone = ltb-false k sop_kinds e in
         record { right = Shaped.alone alone h refl; rest = l; is = ap (λ (x : List ℕ). x ++ l) (sym (drawn_alone k [] alone)) }

@@ -39,29 +39,29 @@ encoded_append [] b = refl
 encoded_append (x ∷ xs) b = ap (λ (l : List ℕ). symbol_of (x % 16) ∷ symbol_of (x / 16) ∷ l) (encoded_append xs b)
 
 module _ (f : Frame) where
-  message-symbols : f.kind < sop_kinds
+  message_symbols : f.kind < sop_kinds
       → symbols_of f ≡ set_of f.kind ++ (encoded f.octets ++ (encoded (four_octets (crc_of f.octets)) ++ (eop ∷ [])))
   unfolding symbols_of drawn sealed with_crc
-  message-symbols h =
+  message_symbols h =
       ap (λ (b : Bool). set_of f.kind ++ cond b (encoded (cond b (with_crc f.octets) []) ++ (eop ∷ [])) []) (carrying f.kind h)
       ∙ simp (encoded_append, append_assoc)
 
-  alone-symbols : sop_kinds ≤ f.kind → symbols_of f ≡ set_of f.kind
+  alone_symbols : sop_kinds ≤ f.kind → symbols_of f ≡ set_of f.kind
   unfolding symbols_of drawn sealed
-  alone-symbols h =
+  alone_symbols h =
       ap (λ (b : Bool). set_of f.kind ++ cond b (encoded (cond b (with_crc f.octets) []) ++ (eop ∷ [])) []) (bare f.kind h)
       ∙ append-nil (set_of f.kind)
 
-  length-message : f.kind < sop_kinds → length (symbols_of f) ≡ 13 + 2 * length f.octets
+  length_message : f.kind < sop_kinds → length (symbols_of f) ≡ 13 + 2 * length f.octets
   unfolding four_octets
-  length-message h =
-      rw (message-symbols h) (simp (length-append, length_encoded) (let z = set_length f.kind (omega arith) in omega arith))
+  length_message h =
+      rw (message_symbols h) (simp (length-append, length_encoded) (let z = set_length f.kind (omega arith) in omega arith))
 
   length_alone : sop_kinds ≤ f.kind → f.kind < kinds → length (symbols_of f) ≡ 4
-  length_alone h g = ap length (alone-symbols h) ∙ set_length f.kind g
+  length_alone h g = ap length (alone_symbols h) ∙ set_length f.kind g
 
 pub frame_lengths : FrameLengths
-frame_lengths f (message h o lo hi) = let n = length-message f h in inr (omega arith, omega arith)
+frame_lengths f (message h o lo hi) = let n = length_message f h in inr (omega arith, omega arith)
 frame_lengths f (alone h k e) = inl (length_alone f h k)
 
 -- the runs of stores that put a message
@@ -79,7 +79,7 @@ message_put f before s₁ s₂ s₃ tail c at end h e₁ e₂ ec et e₃ =
     let t : length tail ≡ 4 = ap length u in
     let last = encoded tail ++ (eop ∷ []) in
     record {
-      long = let n = length-message f h in omega arith;
+      long = let n = length_message f h in omega arith;
       puts =
           ap (λ (s : List ℕ). sets s end (eop ∷ [])) e₃.1
           ∙ sets_append s₂ at (encoded tail) (eop ∷ []) end (let m = length_encoded tail in omega arith)
@@ -88,15 +88,15 @@ message_put f before s₁ s₂ s₃ tail c at end h e₁ e₂ ec et e₃ =
           ∙ ap (λ (s : List ℕ). sets s 4 (encoded l ++ last)) e₁
           ∙ sets_append before 0 (set_of k) (encoded l ++ last) 4 (let m = set_length k (omega arith) in omega arith)
           ∙ ap (λ (s : List ℕ). sets before 0 (set_of k ++ (encoded l ++ (encoded s ++ (eop ∷ []))))) u
-          ∙ ap (sets before 0) (sym (message-symbols f h));
+          ∙ ap (sets before 0) (sym (message_symbols f h));
     }
 
 -- ---- the length of a message
 
 module _ (k n : ℕ) where
-  none-alone : sop_kinds ≤ k → n ≡ 0 → wrong_length k n ≡ false
+  none_alone : sop_kinds ≤ k → n ≡ 0 → wrong_length k n ≡ false
   unfolding wrong_length
-  none-alone h e = simp (bare k h, eq-eqb n 0 e)
+  none_alone h e = simp (bare k h, eq-eqb n 0 e)
 
   pub some_alone : sop_kinds ≤ k → (n ≡ 0 → ⊥) → wrong_length k n ≡ true
   unfolding wrong_length
@@ -110,9 +110,9 @@ module _ (k n : ℕ) where
   unfolding wrong_length
   too_many h e g = simp (carrying k h, le-ltb n 2 e, lt-ltb 30 n g)
 
-  right-many : k < sop_kinds → 2 ≤ n → n ≤ 30 → wrong_length k n ≡ false
+  right_many : k < sop_kinds → 2 ≤ n → n ≤ 30 → wrong_length k n ≡ false
   unfolding wrong_length
-  right-many h e g = simp (carrying k h, le-ltb n 2 e, le-ltb 30 n g)
+  right_many h e g = simp (carrying k h, le-ltb n 2 e, le-ltb 30 n g)
 
 -- ---- the ways out
 
@@ -144,11 +144,11 @@ module _ (f : Frame) (before : List ℕ) where
 
       pub message_sent : f.kind < sop_kinds → 2 ≤ length f.octets → length f.octets ≤ 30
           → (n : ℕ) (after : List ℕ) → Put f before n after → Writes f before (Sent n) after
-      message_sent h lo hi = taken (right-many f.kind (length f.octets) h lo hi) (let n = length-message f h in omega arith)
+      message_sent h lo hi = taken (right_many f.kind (length f.octets) h lo hi) (let n = length_message f h in omega arith)
 
       pub alone_sent : sop_kinds ≤ f.kind → length f.octets ≡ 0
           → (after : List ℕ) → after ≡ sets before 0 (set_of f.kind) → Writes f before (Sent 4) after
       alone_sent h e after q =
           let n = length_alone f h known in
-          taken (none-alone f.kind (length f.octets) h e) (omega arith) 4 after
-          (record { long = sym n; puts = q ∙ ap (sets before 0) (sym (alone-symbols f h)) })
+          taken (none_alone f.kind (length f.octets) h e) (omega arith) 4 after
+          (record { long = sym n; puts = q ∙ ap (sets before 0) (sym (alone_symbols f h)) })

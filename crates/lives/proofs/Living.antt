@@ -80,8 +80,8 @@ record_more s es e = ap joined (frames_more s es e) ∙ joined_append (frames s 
 -- ---- one event
 
 module _ {e : Event} {d : Device} {before : List ℕ} {r : Outcome} {lent : List ℕ} (serves : Serves e d before r lent) where
-  rest-stays : drop r.count lent ≡ drop r.count before
-  rest-stays =
+  rest_stays : drop r.count lent ≡ drop r.count before
+  rest_stays =
       ap (drop r.count) serves.lent
       ∙ drop_at (joined (step (view d) e).frames) _ r.count (sym serves.count)
       ∙ ap (λ (n : ℕ). drop n before) (sym serves.count)
@@ -175,7 +175,7 @@ only_symbols_sent es d rs line e before r lent life call serves =
       counts = rw serves.count (symbols_sent (view d) e good call.fits);
       adds = ap length (served_symbols serves) ∙ sym serves.count;
       within = omega (arith, sent_within (view d) e good call.fits);
-      rest = rest-stays serves;
+      rest = rest_stays serves;
     }
 
 -- ---- 7. Lives leave no history out
