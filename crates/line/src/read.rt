@@ -168,7 +168,7 @@ pub fn read_frame(line: &[u8], cursor: Cursor, octets: &mut [u8]) -> Answer
 }
 
 // What `read_first` answers: the first frame's answer, and the rest of the record.
-#[derive(Drop)]
+#[derive(Clone, Copy)]
 pub struct FirstRead<'a> {
     pub answer: Answer,
     pub rest: &'a [u8],

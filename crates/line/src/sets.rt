@@ -66,7 +66,7 @@ fn agree(set: &[u8], line: &[u8]) -> usize
 }
 
 // The set that a record's first four symbols are taken for, and whether they are it exactly; or too few symbols; or no set.
-#[derive(Drop)]
+#[derive(Clone, Copy)]
 pub(crate) enum Start {
     Set { kind: u8, exact: bool },
     Short(usize),

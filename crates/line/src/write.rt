@@ -10,7 +10,7 @@ use crate::sets::{KINDS, SOP_KINDS, put_set};
 use crate::symbols::{EOP, symbol};
 
 // What the writer answers: the number of symbols, or why there are none.
-#[derive(Drop)]
+#[derive(Clone, Copy)]
 pub enum Written {
     Sent(usize),
     SmallBuffer,

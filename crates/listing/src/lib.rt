@@ -32,7 +32,7 @@ pub struct Listing {
 }
 
 // After a character: the listing, whether it ends there, and the place behind what was printed.
-#[derive(Drop)]
+#[derive(Clone, Copy)]
 pub struct Fed {
     pub listing: Listing,
     pub ends: bool,

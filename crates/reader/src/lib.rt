@@ -8,7 +8,7 @@ ghost use Rattle.reader.specs.Step.{Steps, Starts, Nexts, IsPlace, IsUnread};
 use line::read::{Answer, Cursor};
 
 // What a step answers, and the place it leads to.
-#[derive(Drop)]
+#[derive(Clone, Copy)]
 pub struct Moved {
     pub answer: Answer,
     pub at: Cursor,
@@ -34,7 +34,7 @@ fn step_at(line: &[u8], at: Cursor, octets: &mut [u8]) -> Moved
 }
 
 // A record and a place in it.
-#[derive(Drop)]
+#[derive(Clone, Copy)]
 pub struct Reader<'a> {
     line: &'a [u8],
     at: Cursor,

@@ -274,7 +274,7 @@ struct PartEnd {
     last: u32,
 }
 
-#[derive(Drop)]
+#[derive(Clone, Copy)]
 struct Counted {
     stream: Stream,
     number: Number,

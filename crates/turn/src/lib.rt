@@ -22,7 +22,7 @@ pub enum Tells {
 }
 
 // After a line: the device, whether the run ends there, and the place behind what was printed.
-#[derive(Drop)]
+#[derive(Clone, Copy)]
 pub struct Turned {
     pub device: Device,
     pub ends: bool,
