@@ -1,4 +1,4 @@
--- The stored registers and their bits (01, 'Registers'; names as in data sheet 004, a hyphen for its underscore).
+-- The stored registers and their bits (01, 'Registers'; names as in data sheet 004).
 -- Assumes nothing.
 use Rattle.std.specs.Prelude.{Bool, not, ◌&&◌, ◌||◌, List, [], ◌∷◌, map, ℕ, ◌-◌, leb, eqb, get_or, set}
 use Rattle.std.specs.Int.Bits.{bit_and}
