@@ -22,7 +22,6 @@ use Rattle.machine.specs.Step.{result_of, step, accepted, reply_to}
 use Rattle.machine.specs.Good.{AllWithin, KindGood, PhaseGood, OpenGood, Good}
 use Rattle.machine.proofs.Keeping.{power_up_good}
 use Rattle.machine.proofs.Staying.{stays_good}
-use Rattle.fusb302.specs.declared.device.Status.{Status}
 use Rattle.fusb302.specs.declared.device.Request.{Request}
 use Rattle.fusb302.specs.declared.device.Device.{Device}
 use Rattle.fusb302.specs.declared.device.Reply.TheVariants.{No}
