@@ -13,13 +13,14 @@ import sys
 SCRATCH = 'target/tests/types'
 PINS = 'crates/fusb302/src/pins.rt'
 EDITS = {
-    'the code for the reference': ('voltage.above(MdacCode::of(measure).on_cc())', 'voltage.above(MdacCode::of(measure))',
+    'the code for the reference': ('let reference = MdacCode::of(measure).reference(MDAC_STEP_CC);', 'let reference = MdacCode::of(measure);',
                                    'expected `Millivolts`, found `MdacCode`'),
-    'the register for the reference': ('voltage.above(MdacCode::of(measure).on_cc())', 'voltage.above(measure)',
+    'the register for the reference': ('let reference = MdacCode::of(measure).reference(MDAC_STEP_CC);', 'let reference = measure;',
                                        'expected `Millivolts`, found `u8`'),
-    'the register for the code': ('MdacCode::of(measure).on_vbus()', 'measure.on_vbus()',
-                                  'no method named `on_vbus` found for type `u8`'),
-    'a voltage for the code': ('MdacCode::of(measure).on_vbus()', 'vbus.on_vbus()', 'no method named `on_vbus` found for type `Millivolts`'),
+    'the register for the code': ('MdacCode::of(measure).reference(MDAC_STEP_VBUS)', 'measure.reference(MDAC_STEP_VBUS)',
+                                  'no method named `reference` found for type `u8`'),
+    'a voltage for the code': ('MdacCode::of(measure).reference(MDAC_STEP_VBUS)', 'vbus.reference(MDAC_STEP_VBUS)',
+                               'no method named `reference` found for type `Millivolts`'),
     'a bare number for a threshold': ('vbus.above(VBUS_THRESHOLD)', 'vbus.above(4000)', 'expected `Millivolts`, found an integer'),
 }
 

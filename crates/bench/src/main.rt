@@ -2,8 +2,8 @@
 #![tactic(auto)]
 
 use run::run;
-use turn::Tells;
+use turn::Outcomes;
 
 fn main(rt: HostRuntime) {
-    run(rt.stdin(), rt.stdout(), Tells::Outcomes);
+    run(rt.stdin(), rt.stdout(), &Outcomes);
 }

@@ -2,7 +2,7 @@
 -- Assumes nothing.
 use mathlib.Core.Path.{◌≡◌, refl, sym, ap, ◌∙◌, subst}
 use mathlib.Core.Bool.{true, false, cond, ◌&&◌}
-use mathlib.Core.List.{List, []}
+use mathlib.Core.List.{List}
 use Prim.Native.Nat.{ℕ, ◌-◌, ◌<◌, ◌≤◌}
 use native.Mathlib.Omega.{arith}
 use borrow.Author.Tests.{lt-ltb, le-ltb, le-leb, lt-leb, eq-eqb, ne_eqb}
@@ -10,64 +10,58 @@ use lib.Dec.{leb, eqb}
 use lib.ListN.{length, drop, get_or}
 use Rattle.line.specs.Frame.{joined}
 use Rattle.line.specs.Write.{frame_room}
-use Rattle.machine.specs.Registers.{resets, cell, fifos, device_id, status0a, interrupta, interruptb, interrupt, is_stored, read_only, exists}
+use Rattle.machine.specs.Registers.{cell, fifos, device_id, status0a, interrupta, interruptb, interrupt, is_stored, read_only, exists}
 use Rattle.machine.specs.Status.{shown, cleared_at}
-use Rattle.machine.specs.State as machine
-use Rattle.machine.specs.State.{power_up, cleared, with_rx, with_status, with_ints}
-use Rattle.machine.specs.Good.{Good}
+use Rattle.machine.specs.State.{with_rx, with_ints}
 use Rattle.machine.specs.Requests.{hard_reset_heard}
 use Rattle.machine.specs.Events.{read, hard_reset, value}
 use Rattle.machine.specs.Step.{accepted, reply_to, read_value, after_read}
-use Rattle.machine.proofs.Keeping.{power_up_good}
 use Rattle.machine.proofs.Checking.{read_checks, reset_checks}
 use Rattle.fusb302.specs.declared.bits.Place.{Place}
 use Rattle.fusb302.specs.declared.bits.Place.TheVariants.{Id, Stored, Shown, Port, Nowhere}
-use Rattle.fusb302.specs.declared.queue.Queue.{Queue}
 use Rattle.fusb302.specs.declared.fifo.Fifo.{Fifo}
 use Rattle.fusb302.specs.declared.device.Device.{Device}
-use Rattle.fusb302.specs.declared.device.Status.{Status}
 use Rattle.fusb302.specs.declared.device.Ints.{Ints}
-use Rattle.fusb302.specs.declared.device.Reply.TheVariants.{Done, Value, No}
+use Rattle.std.specs.Prelude.{Some, None, Ok, Err}
+use Rattle.fusb302.specs.declared.refusals.No.TheVariants.{SmallBuffer, NoSuchAddress, NothingHeld}
 use Rattle.fusb302.specs.Places.{Placed}
-use Rattle.fusb302.specs.Queued.{queued}
-use Rattle.fusb302.specs.Held.{held, Sound}
-use Rattle.fusb302.specs.View.{status_of, ints_of, view, Arranged, Asks, PoweredUp}
+use Rattle.fusb302.specs.Held.{held}
+use Rattle.fusb302.specs.View.{ints_of, view, Arranged, Asks}
 use Rattle.fusb302.specs.Serves.{Serves, PortRead}
 use Rattle.fusb302.proofs.Serving.{serves_no, serves_yes}
-use Rattle.fusb302.proofs.Showing.{held_length}
+use Rattle.fusb302.proofs.Showing.{arranged, held_length}
 
 -- ---- reads
 
 module _ (d : Device) (asks : Asks d) (before : List ℕ) (a : ℕ) where
-  pub read_small : length before < frame_room → Serves (read (length before) a) d before (record { device = d; reply = No 12; count = 0 }) before
-  read_small h = serves_no (read (length before) a) d before asks 12 (read_checks (view d) (length before) a ∙ simp (lt-ltb (length before) frame_room h))
+  pub read_small : length before < frame_room → Serves (read (length before) a) d before (record { device = d; reply = Err SmallBuffer; count = 0 }) before
+  read_small h = serves_no (read (length before) a) d before asks SmallBuffer (read_checks (view d) (length before) a ∙ simp (lt-ltb (length before) frame_room h))
 
   module _ (room : frame_room ≤ length before) where
-    pub read_nowhere : exists a ≡ false → Serves (read (length before) a) d before (record { device = d; reply = No 1; count = 0 }) before
+    pub read_nowhere : exists a ≡ false → Serves (read (length before) a) d before (record { device = d; reply = Err NoSuchAddress; count = 0 }) before
     read_nowhere h =
-        serves_no (read (length before) a) d before asks 1
+        serves_no (read (length before) a) d before asks NoSuchAddress
         (read_checks (view d) (length before) a ∙ simp (le-ltb (length before) frame_room room, h))
 
     -- a read that is taken gives an octet, sends nothing, and leaves a device
     read_gives : exists a ≡ true → (eqb a fifos && eqb (length (view d).rx) 0) ≡ false → a < 256 → (v : ℕ) (t : Device) → Arranged t
         → view t ≡ after_read a (view d) → v ≡ read_value a (view d)
-        → Serves (read (length before) a) d before (record { device = t; reply = Value v; count = 0 }) before
+        → Serves (read (length before) a) d before (record { device = t; reply = Ok (Some v); count = 0 }) before
     unfolding accepted reply_to joined
     read_gives h k small v t arranged p q =
         serves_yes (read (length before) a) d before asks
         (read_checks (view d) (length before) a ∙ simp (le-ltb (length before) frame_room room, h, k)) small
-        (record { device = t; reply = Value v; count = 0 }) before arranged p (ap value q) refl refl
+        (record { device = t; reply = Ok (Some v); count = 0 }) before arranged p (ap value q) refl refl
 
     -- reads of other addresses than the port
     module _ (other : eqb a fifos ≡ false) (there : exists a ≡ true) (small : a < 256) where
-      pub read_of : (v : ℕ) (i : Ints) → ints_of i ≡ cleared_at a (ints_of d.ints)
+      pub read_of : (v : ℕ) (i : Ints) (r : length d.cells ≡ 15) → ints_of i ≡ cleared_at a (ints_of d.ints)
           → v ≡ cond (eqb a device_id) 0x91 (cond (is_stored a) (get_or d.cells (a - 2) 0) (get_or (shown (view d)) (a - status0a) 0))
           → Serves (read (length before) a) d before
-          (record { device = record { cells = d.cells; tx = d.tx; rx = d.rx; status = d.status; ints = i; request = d.request; pins = d.pins }; reply = Value v; count = 0 }) before
+          (record { device = record { cells = d.cells; tx = d.tx; rx = d.rx; status = d.status; ints = i; request = d.request; pins = d.pins; registers = r }; reply = Ok (Some v); count = 0 }) before
       unfolding after_read read_value cell
-      read_of v i p q =
-          let g = asks.arranged in
-          read_gives there (rw other refl) small v _ (record { cells = g.cells; tx = g.tx; rx = g.rx })
+      read_of v i r p q =
+          read_gives there (rw other refl) small v _ (arranged _)
           (rw other (ap (λ x. with_ints x (view d)) p)) (rw other q)
 
 -- ---- what stands at an address
@@ -109,81 +103,48 @@ at_shown a lo hi =
     let one : eqb a device_id ≡ false = ne_eqb a device_id (λ e. omega arith) in
     (rw (two, low, one, le-leb 0x3C a lo, le-leb a 0x42 hi) refl, ne_eqb a fifos (λ e. omega arith), rw (two, low) refl, one)
 
--- ---- power-up
-
-module _ (tx : Queue) (rx : Fifo) (x : Status) (no-tx : queued tx ≡ []) (no-rx : held rx ≡ []) (none-shown : status_of x ≡ cleared) where
-  abbrev pub fresh : Device
-  fresh =
-      record {
-        cells = resets;
-        tx = tx;
-        rx = rx;
-        status = x;
-        ints = record { a = 0; b = 0; main = 0 };
-        request =
-            record {
-              active = false;
-              switches1 = 0;
-              retries = 0;
-              soft = false;
-              hard = false;
-              resetting = 5;
-              sent = 0;
-              waited = 0;
-            };
-        pins = record { cc1 = record { 0 = 0 }; cc2 = record { 0 = 0 }; vbus = record { 0 = 0 } };
-      }
-
-  pub powered : Arranged fresh → PoweredUp fresh
-  powered h =
-      let new : view fresh ≡ power_up = rw (no-tx, no-rx) (ap (λ (y : machine.Status). with_status y power_up) none-shown) in
-      record { asks = record { arranged = h; good = subst Good (sym new) power_up_good }; new = new }
-
 -- ---- the port
 
 module _ (d : Device) (asks : Asks d) where
-  sound : Sound d.rx
-  sound = asks.arranged.rx
-
-  pub port_empty : d.rx.len ≡ 0 → PortRead d (record { device = d; reply = No 8; count = 0 })
+  pub port_empty : d.rx.len ≡ 0 → PortRead d (record { device = d; reply = Err NothingHeld; count = 0 })
   unfolding exists is_stored read_only
   port_empty h =
       record {
         serves = λ before room.
-            serves_no (read (length before) fifos) d before asks 8
+            serves_no (read (length before) fifos) d before asks NothingHeld
             (read_checks (view d) (length before) fifos
-            ∙ simp (le-ltb (length before) frame_room room, eq-eqb (length (held d.rx)) 0 (held_length d.rx sound ∙ h)));
+            ∙ simp (le-ltb (length before) frame_room room, eq-eqb (length (held d.rx)) 0 (held_length d.rx ∙ h)));
       }
 
-  pub port_read : (d.rx.len ≡ 0 → ⊥) → (v : ℕ) (rx : Fifo) → v ≡ get_or (held d.rx) 0 0 → Sound rx → held rx ≡ drop 1 (held d.rx)
+  pub port_read : (d.rx.len ≡ 0 → ⊥) → (v : ℕ) (rx : Fifo) (q : length d.cells ≡ 15) → v ≡ get_or (held d.rx) 0 0 → held rx ≡ drop 1 (held d.rx)
       → PortRead d (record {
-        device = record { cells = d.cells; tx = d.tx; rx = rx; status = d.status; ints = d.ints; request = d.request; pins = d.pins };
-        reply = Value v;
+        device = record { cells = d.cells; tx = d.tx; rx = rx; status = d.status; ints = d.ints; request = d.request; pins = d.pins; registers = q };
+        reply = Ok (Some v);
         count = 0;
       })
   unfolding exists is_stored read_only after_read read_value
-  port_read h v rx p q r =
+  port_read h v rx q p r =
       record {
         serves = λ before room.
             read_gives d asks before fifos room refl
-            (ne_eqb (length (held d.rx)) 0 (λ e. h (sym (held_length d.rx sound) ∙ e))) (omega arith) v _
-            (record { cells = asks.arranged.cells; tx = asks.arranged.tx; rx = q }) (ap (λ x. with_rx x (view d)) r) p;
+            (ne_eqb (length (held d.rx)) 0 (λ e. h (sym (held_length d.rx) ∙ e))) (omega arith) v _
+            (arranged _) (ap (λ x. with_rx x (view d)) r) p;
       }
 
 -- ---- a Hard Reset heard
 
 module _ (d : Device) (asks : Asks d) (before : List ℕ) where
-  pub reset_small : length before < frame_room → Serves (hard_reset (length before)) d before (record { device = d; reply = No 12; count = 0 }) before
+  pub reset_small : length before < frame_room → Serves (hard_reset (length before)) d before (record { device = d; reply = Err SmallBuffer; count = 0 }) before
   reset_small h =
-      serves_no (hard_reset (length before)) d before asks 12 (reset_checks (view d) (length before) ∙ simp (lt-ltb (length before) frame_room h))
+      serves_no (hard_reset (length before)) d before asks SmallBuffer (reset_checks (view d) (length before) ∙ simp (lt-ltb (length before) frame_room h))
 
   pub reset_heard : frame_room ≤ length before → (t : Device) → Arranged t → view t ≡ hard_reset_heard (view d)
-      → Serves (hard_reset (length before)) d before (record { device = t; reply = Done; count = 0 }) before
+      → Serves (hard_reset (length before)) d before (record { device = t; reply = Ok None; count = 0 }) before
   unfolding accepted reply_to joined
   reset_heard room t arranged p =
       serves_yes (hard_reset (length before)) d before asks
       (reset_checks (view d) (length before) ∙ simp (le-ltb (length before) frame_room room)) tt
-      (record { device = t; reply = Done; count = 0 }) before arranged p refl refl refl
+      (record { device = t; reply = Ok None; count = 0 }) before arranged p refl refl refl
 
 -- ---- reads of an address
 
@@ -192,24 +153,24 @@ module _ (d : Device) (asks : Asks d) (before : List ℕ) (room : frame_room ≤
   unfolding cleared_at
   nothing_cleared p q r = rw (p, q, r) refl
 
-  pub read_id : a ≡ device_id → Serves (read (length before) a) d before (record { device = d; reply = Value 0x91; count = 0 }) before
+  pub read_id : a ≡ device_id → Serves (read (length before) a) d before (record { device = d; reply = Ok (Some 0x91); count = 0 }) before
   read_id e =
       let w = at_id a e in
-      read_of d asks before a room w.1 w.0 small 0x91 d.ints
+      read_of d asks before a room w.1 w.0 small 0x91 d.ints d.registers
       (nothing_cleared (rw e refl) (rw e refl) (rw e refl)) (rw e refl)
 
   pub read_stored : (2 ≤ a) × (a ≤ 0x10)
-      → Serves (read (length before) a) d before (record { device = d; reply = Value (get_or d.cells (a - 2) 0); count = 0 }) before
+      → Serves (read (length before) a) d before (record { device = d; reply = Ok (Some (get_or d.cells (a - 2) 0)); count = 0 }) before
   read_stored h =
       let w = at_stored a h.0 h.1 in
-      read_of d asks before a room w.1 w.0 small (get_or d.cells (a - 2) 0) d.ints
+      read_of d asks before a room w.1 w.0 small (get_or d.cells (a - 2) 0) d.ints d.registers
       (nothing_cleared (ne_eqb a interrupta (λ e. omega arith)) (ne_eqb a interruptb (λ e. omega arith)) (ne_eqb a interrupt (λ e. omega arith)))
       (rw (w.3, w.2) refl)
 
-  pub read_shown : (0x3C ≤ a) × (a ≤ 0x42) → (v : ℕ) (i : Ints) → v ≡ get_or (shown (view d)) (a - status0a) 0
+  pub read_shown : (0x3C ≤ a) × (a ≤ 0x42) → (v : ℕ) (i : Ints) (r : length d.cells ≡ 15) → v ≡ get_or (shown (view d)) (a - status0a) 0
       → ints_of i ≡ cleared_at a (ints_of d.ints)
       → Serves (read (length before) a) d before
-      (record { device = record { cells = d.cells; tx = d.tx; rx = d.rx; status = d.status; ints = i; request = d.request; pins = d.pins }; reply = Value v; count = 0 }) before
-  read_shown h v i p q =
+      (record { device = record { cells = d.cells; tx = d.tx; rx = d.rx; status = d.status; ints = i; request = d.request; pins = d.pins; registers = r }; reply = Ok (Some v); count = 0 }) before
+  read_shown h v i r p q =
       let w = at_shown a h.0 h.1 in
-      read_of d asks before a room w.1 w.0 small v i q (rw (w.3, w.2) p)
+      read_of d asks before a room w.1 w.0 small v i r q (rw (w.3, w.2) p)

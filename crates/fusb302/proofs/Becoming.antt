@@ -1,27 +1,25 @@
 -- Devices that stand for states, one part replaced after another, and what they send.
 -- Assumes nothing.
-use mathlib.Core.Path.{◌≡◌, refl, ap, ◌∙◌}
-use mathlib.Core.Bool.{false}
+use mathlib.Core.Path.{refl, ap, ◌∙◌}
 use mathlib.Core.List.{List, [], ◌∷◌}
 use mathlib.Core.Option.{Option, none, some}
 use Prim.Native.Nat.{ℕ}
 use Rattle.line.specs.Frame.{Frame}
 use Rattle.machine.specs.State.{State, shows, raises_a}
 use Rattle.machine.specs.Requests.{silent, sends, sends_if, over}
-use Rattle.fusb302.specs.declared.queue.Queue.{Queue}
 use Rattle.fusb302.specs.declared.device.Device.{Device}
-use Rattle.fusb302.specs.declared.device.Reply.TheVariants.{Done}
+use Rattle.std.specs.Prelude.{None, Ok}
 use Rattle.fusb302.specs.declared.device.Outcome.{Outcome}
-use Rattle.fusb302.specs.Queued.{queued, Kept}
-use Rattle.fusb302.specs.View.{view, Arranged}
+use Rattle.fusb302.specs.View.{view}
 use Rattle.fusb302.specs.Serves.{if_any, Becomes, Sends, Does, DoesQuietly}
+use Rattle.fusb302.proofs.Showing.{arranged}
 use Rattle.fusb302.proofs.Sending.{sends_none}
 
 abbrev pub done : Device → ℕ → Outcome
-done t n = record { device = t; reply = Done; count = n }
+done t n = record { device = t; reply = Ok None; count = n }
 
-pub itself : (d : Device) → Arranged d → Becomes (view d) d
-itself d h = record { state = refl; arranged = h }
+pub itself : (d : Device) → Becomes (view d) d
+itself d = record { state = refl; arranged = arranged d }
 
 module _ (s : State) (t : Device) (is : Becomes s t) where
   -- and then another part is replaced
@@ -43,32 +41,8 @@ module _ (s : State) (t : Device) (is : Becomes s t) where
       if_sending none h = record { state = is.state; arranged = is.arranged; reply = refl; sends = h }
       if_sending (some f) h = sending f h
 
--- ---- a request is over
+-- ---- a request is over, and bits are set in 3C and 3E
 
-pub is_over : (d : Device) → Arranged d → (tx : Queue) → Kept tx × (queued tx ≡ [])
-    → Becomes (over (view d))
-    (record {
-      cells = d.cells;
-      tx = tx;
-      rx = d.rx;
-      status = d.status;
-      ints = d.ints;
-      request =
-          record {
-            active = false;
-            switches1 = d.request.switches1;
-            retries = d.request.retries;
-            soft = d.request.soft;
-            hard = d.request.hard;
-            resetting = d.request.resetting;
-            sent = d.request.sent;
-            waited = d.request.waited;
-          };
-      pins = d.pins;
-    })
-is_over d h tx empty = record { state = rw empty.1 refl; arranged = record { cells = h.cells; tx = empty.0; rx = h.rx } }
-
--- and bits are set in 3C and 3E
 pub over_noted : (d a b c : Device) (m i : ℕ) → Becomes (over (view d)) a → Becomes (shows m (view a)) b → Becomes (raises_a i (view b)) c
     → Becomes (raises_a i (shows m (over (view d)))) c
 over_noted d a b c m i p q r = and_then _ b (and_then _ a p (shows m) b q) (raises_a i) c r

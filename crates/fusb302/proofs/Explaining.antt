@@ -18,7 +18,7 @@ use Rattle.machine.specs.Packets.{enables, kind_on, fits_rx}
 use Rattle.machine.specs.Refusals.{no11, no9}
 use Rattle.machine.specs.Why.{Reason, refused, kind_off, crc_wrong, no_room, is_good_crc, auto_crc_off, auto_pre_on, driver_off, causes, first_cause, why}
 use Rattle.fusb302.specs.declared.device.Device.{Device}
-use Rattle.fusb302.specs.View.{view, Arranged}
+use Rattle.fusb302.specs.View.{view}
 use Rattle.fusb302.proofs.Hearing.{has_room, no_room_lem}
 
 -- ---- each test, as the code makes it
@@ -28,11 +28,11 @@ module _ (d : Device) where
   unfolding kind_on registers.cell
   is_off k a b e f = ap not (sym e) ∙ f
 
-  pub is_full : (m : List ℕ) → Arranged d → 80 < d.rx.len + 1 + length m → not (fits_rx m (view d)) ≡ true
-  is_full m h lt = ap not (no_room_lem d h m lt)
+  pub is_full : (m : List ℕ) → 80 < d.rx.len + 1 + length m → not (fits_rx m (view d)) ≡ true
+  is_full m lt = ap not (no_room_lem d m lt)
 
-  pub is_room : (m : List ℕ) → Arranged d → d.rx.len + 1 + length m ≤ 80 → not (fits_rx m (view d)) ≡ false
-  is_room m h le = ap not (has_room d h m le)
+  pub is_room : (m : List ℕ) → d.rx.len + 1 + length m ≤ 80 → not (fits_rx m (view d)) ≡ false
+  is_room m le = ap not (has_room d m le)
 
   pub is_unset : (a b : Bool) → a ≡ has AUTO_CRC (get_or d.cells 1 0) → not a ≡ b → not (has AUTO_CRC (reg switches1 (view d))) ≡ b
   unfolding registers.cell

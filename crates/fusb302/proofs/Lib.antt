@@ -1,7 +1,6 @@
 -- Laws that the functions' proofs share.
 pub mod Octets
 pub mod Queueing
-pub mod Storing
 pub mod Serving
 pub mod Sensing
 pub mod Showing

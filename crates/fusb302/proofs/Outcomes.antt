@@ -1,52 +1,131 @@
 -- No second outcome, and each reply means one thing.
 -- Assumes nothing.
-use mathlib.Core.Path.{◌≡◌, refl, sym, ap, ◌∙◌}
-use mathlib.Core.Bool.{not}
+use mathlib.Core.Path.{◌≡◌, refl, sym, ap, ◌∙◌, subst}
+use mathlib.Core.Bool.{Bool, true, false, not, cond}
 use mathlib.Core.List.{List, [], ◌∷◌, ◌++◌, append-nil}
 use mathlib.Core.Logic.{◌↔◌, ⊎_elim}
 use mathlib.Core.Option.{Option, none, some}
 use Prim.Native.Nat.{ℕ, ◌<◌, ◌≤◌}
 use native.Mathlib.Omega.{arith}
-use lib.ListN.{length}
+use lib.ListN.{length, get_or}
 use Rattle.line.specs.Frame.{Frame, Whole, symbols_of, joined}
 use Rattle.line.specs.Write.{frame_room}
+use Rattle.line.specs.Refusal.{Row, first_no}
 use Rattle.line.proofs.Writing.{frame_lengths}
 use Rattle.machine.specs.Status.{int_low}
 use Rattle.machine.specs.Events as events
-use Rattle.machine.specs.Events.{Event, packet}
-use Rattle.machine.specs.Why.{Reason, refused, kind_off, crc_wrong, no_room, is_good_crc, auto_crc_off, auto_pre_on, driver_off, why}
+use Rattle.machine.specs.Events.{Event, write, read, pass, hard_reset, packet, sense}
+use Rattle.machine.specs.Why.{Reason, refused, kind_off, crc_wrong, no_room, is_good_crc, auto_crc_off, auto_pre_on, driver_off, Cause, causes, first_cause, why}
+use Rattle.machine.specs.Refusals.{table, refusal}
 use Rattle.machine.specs.Theorems.{GoodCrcFor}
 use Rattle.machine.proofs.Explaining.{leaves_exactly}
 use Rattle.machine.specs.State.{State}
-use Rattle.machine.specs.Step.{Result, step}
+use Rattle.machine.specs.Step.{Result, reply_to, step}
 use Rattle.fusb302.specs.declared.device.Device.{Device}
 use Rattle.fusb302.specs.declared.device.Outcome.{Outcome}
-use Rattle.fusb302.specs.declared.device.Reply.{Reply}
-use Rattle.fusb302.specs.declared.device.Reply.TheVariants.{Done, Value, No}
+use Rattle.std.specs.Prelude.{Some, None, Ok, Err, ⊤}
 use Rattle.fusb302.specs.declared.why.Why.{Why}
-use Rattle.fusb302.specs.declared.why.Why.TheVariants.{Refused, KindOff, CrcWrong, NoRoom, IsGoodCrc, AutoCrcOff, AutoPreOn, DriverOff, Leaves}
-use Rattle.fusb302.specs.Serves.{replied, overlaid, Serves}
+use Rattle.fusb302.specs.declared.why.Why.TheVariants.{Refused, KindOff, CrcWrong, NoRoom, IsGoodCrc, AutoCrcOff, AutoPreOn, Leaves}
+use Rattle.fusb302.specs.declared.why.Why.TheVariants as whys
+use Rattle.fusb302.specs.declared.refusals.No.{No}
+use Rattle.fusb302.specs.declared.refusals.No.TheVariants.{
+  SmallBuffer,
+  NoSuchAddress,
+  ReadOnly,
+  RequestOpen,
+  NotAToken,
+  QueueFull,
+  NotAMessage,
+  DriverOff,
+  NothingHeld,
+  NoSuchKind,
+  WrongLength,
+  TimeTooLong,
+}
+use Rattle.fusb302.specs.Refusals.{number_of}
+use Rattle.fusb302.specs.Serves.{Reply, replied, overlaid, Serves}
 use Rattle.fusb302.specs.Why.{reason_of, Explains}
 use Rattle.fusb302.specs.View.{view, Asks}
 use Rattle.fusb302.specs.Theorems.{OneMeaning, Alike, OneOutcome, ViewEnough, OnePowerUp, OneLevel, OneWhy, WhyTrueOfEvent}
 
+-- ---- the reason of a number
+
+reasons : List No
+reasons =
+    SmallBuffer
+    ∷ NoSuchAddress
+    ∷ ReadOnly
+    ∷ NotAToken
+    ∷ NotAMessage
+    ∷ QueueFull
+    ∷ RequestOpen
+    ∷ DriverOff
+    ∷ NothingHeld
+    ∷ WrongLength
+    ∷ TimeTooLong
+    ∷ NoSuchKind
+    ∷ []
+
+-- number 12 stands where 0 would, which is the number of none
+pub reason : ℕ → No
+reason n = get_or reasons n SmallBuffer
+
+reason_of_number : (n : No) → reason (number_of n) ≡ n
+unfolding reasons reason
+reason_of_number SmallBuffer = refl
+reason_of_number NoSuchAddress = refl
+reason_of_number ReadOnly = refl
+reason_of_number RequestOpen = refl
+reason_of_number NotAToken = refl
+reason_of_number QueueFull = refl
+reason_of_number NotAMessage = refl
+reason_of_number DriverOff = refl
+reason_of_number NothingHeld = refl
+reason_of_number NoSuchKind = refl
+reason_of_number WrongLength = refl
+reason_of_number TimeTooLong = refl
+
+-- each row's number has its reason
+AllNumbered : List Row → Type 0
+AllNumbered [] = ⊤
+AllNumbered (x ∷ xs) = (number_of (reason x.number) ≡ x.number) × AllNumbered xs
+
+first_numbered : (xs : List Row) → AllNumbered xs → (n : ℕ) → first_no xs ≡ some n → number_of (reason n) ≡ n
+unfolding AllNumbered first_no
+first_numbered [] h n e = cc
+first_numbered (x ∷ xs) h n e = go x.applies (first_numbered xs h.1 n) e
+  where
+    go : (b : Bool) → (first_no xs ≡ some n → number_of (reason n) ≡ n) → cond b (some x.number) (first_no xs) ≡ some n
+        → number_of (reason n) ≡ n
+    go true later q = let same : x.number ≡ n = cc in subst (λ (k : ℕ). number_of (reason k) ≡ k) same h.0
+    go false later q = later q
+
+pub refusal_numbered : (s : State) (e : Event) (n : ℕ) → refusal s e ≡ some n → number_of (reason n) ≡ n
+unfolding AllNumbered refusal reasons reason
+refusal_numbered s e n h = first_numbered (table s e) (refl, (refl, (refl, (refl, (refl, (refl, (refl, (refl, (refl, (refl, (refl, (refl, tt)))))))))))) n h
+
+-- ---- each reply means one thing
+
 -- the reply of a meaning
 pub reply_of : events.Reply → Reply
-reply_of events.done = Done
-reply_of (events.value v) = Value v
-reply_of (events.no n) = No n
+reply_of events.done = Ok None
+reply_of (events.value v) = Ok (Some v)
+reply_of (events.no n) = Err (reason n)
 
 reply_back : (r : Reply) → reply_of (replied r) ≡ r
 unfolding reply_of
-reply_back Done = refl
-reply_back (Value v) = refl
-reply_back (No n) = refl
+reply_back (Ok None) = refl
+reply_back (Ok (Some v)) = refl
+reply_back (Err n) = ap (λ (x : No). Err x) (reason_of_number n)
 
-pub meant_back : (m : events.Reply) → replied (reply_of m) ≡ m
-unfolding reply_of
-meant_back events.done = refl
-meant_back (events.value v) = refl
-meant_back (events.no n) = refl
+pub reply_meant : (s : State) (e : Event) → replied (reply_of (reply_to s e)) ≡ reply_to s e
+unfolding reply_of reply_to
+reply_meant s (write r a v) = refl
+reply_meant s (read r a) = refl
+reply_meant s (pass r n) = refl
+reply_meant s (hard_reset r) = refl
+reply_meant s (packet r k m) = refl
+reply_meant s (sense r x y z) = refl
 
 pub one_meaning : OneMeaning
 one_meaning r s e = sym (reply_back r) ∙ ap reply_of e ∙ reply_back s
@@ -72,38 +151,45 @@ one_level d r s p q = p ∙ sym q
 -- the answer of a reason, or of none
 pub why_of : Option Reason → Why
 why_of none = Leaves
-why_of (some (refused n)) = Refused n
+why_of (some (refused n)) = Refused (reason n)
 why_of (some kind_off) = KindOff
 why_of (some crc_wrong) = CrcWrong
 why_of (some no_room) = NoRoom
 why_of (some is_good_crc) = IsGoodCrc
 why_of (some auto_crc_off) = AutoCrcOff
 why_of (some auto_pre_on) = AutoPreOn
-why_of (some driver_off) = DriverOff
+why_of (some driver_off) = whys.DriverOff
 
 why_back : (w : Why) → why_of (reason_of w) ≡ w
 unfolding why_of
-why_back (Refused n) = refl
+why_back (Refused n) = ap (λ (x : No). Refused x) (reason_of_number n)
 why_back KindOff = refl
 why_back CrcWrong = refl
 why_back NoRoom = refl
 why_back IsGoodCrc = refl
 why_back AutoCrcOff = refl
 why_back AutoPreOn = refl
-why_back DriverOff = refl
+why_back whys.DriverOff = refl
 why_back Leaves = refl
 
-pub reason_back : (o : Option Reason) → reason_of (why_of o) ≡ o
-unfolding why_of
-reason_back none = refl
-reason_back (some (refused n)) = refl
-reason_back (some kind_off) = refl
-reason_back (some crc_wrong) = refl
-reason_back (some no_room) = refl
-reason_back (some is_good_crc) = refl
-reason_back (some auto_crc_off) = refl
-reason_back (some auto_pre_on) = refl
-reason_back (some driver_off) = refl
+-- each cause's reason is that of an answer
+AllAnswered : List Cause → Type 0
+AllAnswered [] = ⊤
+AllAnswered (x ∷ xs) = (reason_of (why_of (some x.reason)) ≡ some x.reason) × AllAnswered xs
+
+first_answered : (xs : List Cause) → AllAnswered xs → reason_of (why_of (first_cause xs)) ≡ first_cause xs
+unfolding AllAnswered first_cause why_of
+first_answered [] h = refl
+first_answered (x ∷ xs) h = go x.applies (first_answered xs h.1)
+  where
+    go : (b : Bool) → reason_of (why_of (first_cause xs)) ≡ first_cause xs
+        → reason_of (why_of (cond b (some x.reason) (first_cause xs))) ≡ cond b (some x.reason) (first_cause xs)
+    go true later = h.0
+    go false later = later
+
+pub reason_back : (s : State) (k : ℕ) (m : List ℕ) → reason_of (why_of (why s k m)) ≡ why s k m
+unfolding AllAnswered why why_of reasons reason
+reason_back s k m = first_answered (causes s k m) (refl, (refl, (refl, (refl, (refl, (refl, (refl, (refl, (refl, tt)))))))))
 
 same_why : (r s : Why) → reason_of r ≡ reason_of s → r ≡ s
 same_why r s e = sym (why_back r) ∙ ap why_of e ∙ why_back s
@@ -165,10 +251,10 @@ module _ (d : Device) (k : ℕ) (m : List ℕ) (w : Why) (before : List ℕ) (r 
           let n : r.count ≡ 0 = rw none-sent at serves.count in
           absurd (omega arith)
 
-  refuses : (n : ℕ) → (w ≡ Refused n) ↔ (r.reply ≡ No n)
+  refuses : (n : No) → (w ≡ Refused n) ↔ (r.reply ≡ Err n)
   refuses n =
-      let of-step = leaves_exactly.refuses (view d) (length before) k m n room in (
-        λ e. one_meaning r.reply (No n) (serves.reply ∙ of-step.0 (sym is ∙ ap reason_of e)),
+      let of-step = leaves_exactly.refuses (view d) (length before) k m (number_of n) room in (
+        λ e. one_meaning r.reply (Err n) (serves.reply ∙ of-step.0 (sym is ∙ ap reason_of e)),
         λ e. same_why w (Refused n) (is ∙ of-step.1 (sym serves.reply ∙ ap replied e)),
       )
 

@@ -1,7 +1,12 @@
 -- The transmit queue: its tokens, the set it begins with, one octet more, and each way in which it spells a message or none.
 -- Assumes nothing.
+use Rattle.std.specs.Bool.{then_some}
+use Rattle.std.specs.List.{ends_with, find}
+use Rattle.std.specs.Option.{option_map}
+use Rattle.std.specs.Prelude as rust
+use Rattle.std.specs.Cmp.Lexicographic.{pointwise}
 use mathlib.Core.Path.{◌≡◌, refl, sym, ap, ◌∙◌}
-use mathlib.Core.Bool.{Bool, true, false, cond, ◌&&◌, and-true, and-false, and-eq-true_iff}
+use mathlib.Core.Bool.{Bool, true, false, cond, ◌&&◌, and-false, and-eq-true_iff}
 use mathlib.Core.List.{List, [], ◌∷◌, ◌++◌, map}
 use mathlib.Core.Option.{Option, none, some}
 use Prim.Native.Nat.{ℕ, zero, suc, ◌+◌, ◌-◌, ◌<◌, ◌≤◌}
@@ -10,63 +15,35 @@ use native.Mathlib.Omega.{arith}
 use native.Mathlib.Decide.{dec_le}
 use borrow.Author.Tests.{ltb-true, leb-true, eqb-true, lt-ltb, le-leb, eq-eqb, ne_eqb}
 use lib.Dec.{ltb, leb, eqb}
-use lib.ListN.{length, take, drop, get_or, set, length-take, length-drop, drop_of_length-le, get_or-eq_default}
-use lib.Seq.{take-suc-set, length-take-le, drop-cons, get_or-take, take-take}
+use lib.ListN.{length, take, drop, get_or, set, length-take, length-drop, get_or-eq_default}
+use lib.Seq.{take-suc-set, length-take-le, get_or-take, take-take}
+use Rattle.line.specs.declared.kind.SopKind.{SopKind}
+use Rattle.line.specs.declared.kind.SopKind.TheVariants.{Sop, SopPrime, SopDoublePrime, SopPrimeDebug, SopDoublePrimeDebug}
+use Rattle.line.specs.Numbered.{sop_number}
 use Rattle.line.specs.Symbol.{sync_1, sync_2, sync_3, rst_1, rst_2}
 use Rattle.line.specs.Kind.{ordered_sets, sop_kinds, carries, common, kind_from}
 use Rattle.line.specs.Frame.{Frame}
-use Rattle.line.proofs.Keys.{None}
-use Rattle.machine.specs.Registers.{between}
-use Rattle.machine.specs.Queue.{set_symbol, announced, is_token, to_come, same_list, CRC, EOP, TXOFF, START, closing, spelt_by, spelt}
+use Rattle.machine.specs.Queue.{set_symbol, announced, to_come, same_list, closing, spelt_by, spelt}
 use Rattle.machine.proofs.Spelling.{same_list_lem}
 use Rattle.machine.proofs.Blocks.{to_come_append}
-use Rattle.fusb302.specs.Queued.{sop_kind, sop_only, kind_of}
+use Rattle.fusb302.specs.declared.queue.Message.{Message}
+use Rattle.fusb302.specs.Queued.{spelt_as, sop_kind, sop_only, kind_of}
 
--- ---- tokens
+-- ---- lists compared
 
--- the tokens that announce nothing, as the match has them
-abbrev pub singles : List ℕ
-singles = 0x12 ∷ 0x13 ∷ 0x1B ∷ 0x15 ∷ 0x16 ∷ CRC ∷ EOP ∷ TXOFF ∷ START ∷ []
-
-pub no_token : (x : ℕ) → None (Unit {0}) singles x → between 0x82 0x9E x ≡ false → is_token x ≡ false
-unfolding is_token set_symbol
-no_token x h e =
-    simp (
-      ne_eqb x 0x12 h.0.0.0.0.0.0.0.0.1,
-      ne_eqb x 0x13 h.0.0.0.0.0.0.0.1,
-      ne_eqb x 0x1B h.0.0.0.0.0.0.1,
-      ne_eqb x 0x15 h.0.0.0.0.0.1,
-      ne_eqb x 0x16 h.0.0.0.0.1,
-      e,
-      ne_eqb x CRC h.0.0.0.1,
-      ne_eqb x EOP h.0.0.1,
-      ne_eqb x TXOFF h.0.1,
-      ne_eqb x START h.1,
-    )
-
--- ---- the set that a queue begins with
-
--- one octet differs, or all but the last are the same
-pub other : (l s : List ℕ) (i : ℕ) → i < 4 → (get_or l i 0 ≡ get_or s i 0 → ⊥) → false ≡ same_list (take 4 l) s
-other l s i h n = go (same_list (take 4 l) s) refl
+same_numbers : (x y : ℕ) → eqb x y ≡ eqb y x
+same_numbers x y = go (eqb x y) refl
   where
-    go : (b : Bool) → same_list (take 4 l) s ≡ b → false ≡ b
-    go true e = absurd (n (sym (get_or-take 4 l i 0 h) ∙ ap (λ (t : List ℕ). get_or t i 0) (same_list_lem (take 4 l) s e)))
-    go false e = refl
+    go : (b : Bool) → eqb x y ≡ b → b ≡ eqb y x
+    go true e = sym (eq-eqb y x (sym (eqb-true x y e)))
+    go false e = sym (ne_eqb y x (λ h. let z : ◌≡◌ {A = Bool} true false = sym (eq-eqb x y (sym h)) ∙ e in cc))
 
-pub same_but_last : (l s : List ℕ) → 4 ≤ length l → length s ≡ 4 → get_or l 0 0 ≡ get_or s 0 0 → get_or l 1 0 ≡ get_or s 1 0
-    → get_or l 2 0 ≡ get_or s 2 0 → eqb (get_or l 3 0) (get_or s 3 0) ≡ same_list (take 4 l) s
-same_but_last (a ∷ b ∷ c ∷ d ∷ l) (e ∷ f ∷ g ∷ h ∷ []) p q u v w =
-    simp (eq-eqb a e u, eq-eqb b f v, eq-eqb c g w, and-true)
-same_but_last (a ∷ b ∷ c ∷ d ∷ l) [] p q u v w = absurd (omega arith)
-same_but_last (a ∷ b ∷ c ∷ d ∷ l) (e ∷ []) p q u v w = absurd (omega arith)
-same_but_last (a ∷ b ∷ c ∷ d ∷ l) (e ∷ f ∷ []) p q u v w = absurd (omega arith)
-same_but_last (a ∷ b ∷ c ∷ d ∷ l) (e ∷ f ∷ g ∷ []) p q u v w = absurd (omega arith)
-same_but_last (a ∷ b ∷ c ∷ d ∷ l) (e ∷ f ∷ g ∷ h ∷ i ∷ s) p q u v w = absurd (omega arith)
-same_but_last (a ∷ b ∷ c ∷ []) s p q u v w = absurd (omega arith)
-same_but_last (a ∷ b ∷ []) s p q u v w = absurd (omega arith)
-same_but_last (a ∷ []) s p q u v w = absurd (omega arith)
-same_but_last [] s p q u v w = absurd (omega arith)
+-- as the library compares slices
+pub same_slices : (l s : List ℕ) → same_list l s ≡ pointwise eqb s l
+same_slices [] [] = refl
+same_slices [] (y ∷ s) = refl
+same_slices (x ∷ l) [] = refl
+same_slices (x ∷ l) (y ∷ s) = rw (same_numbers x y, same_slices l s) refl
 
 -- ---- one octet more
 
@@ -134,9 +111,9 @@ fewer (x ∷ s) (y ∷ l) t n e = go (eqb (set_symbol x) (set_symbol y)) refl (f
         let more = ih parts.1 (omega arith) rest in
         omega arith
 
-apart : (s l : List ℕ) → tokens s ≡ true → length s ≡ 4 → length l ≡ 4 → same_list l s ≡ false
+apart : (s l : List ℕ) → tokens s ≡ true → length s ≡ 4 → length l ≡ 4 → pointwise eqb s l ≡ false
     → eqb (common (map set_symbol s) (map set_symbol l)) 4 ≡ false
-apart s l t n m e = let h = fewer s l t (omega arith) e in ne_eqb (common (map set_symbol s) (map set_symbol l)) 4 (omega arith)
+apart s l t n m e = let h = fewer s l t (omega arith) (same_slices l s ∙ e) in ne_eqb (common (map set_symbol s) (map set_symbol l)) 4 (omega arith)
 
 -- Hard Reset is no SOP kind
 hard_reset_only : (b : Bool) → none ≡ sop_only (cond b (some 5) none)
@@ -154,12 +131,15 @@ set_tokens k =
     ∷ []) k []
 
 module _ (l : List ℕ) where
-  pub kind_is : (k : ℕ) → same_list l (set_tokens k) ≡ true → kind_of (set_tokens k) ≡ kind_of l
-  kind_is k e = sym (ap kind_of (same_list_lem l (set_tokens k) e))
+  -- the library's comparison with the set of a kind
+  abbrev is_set : ℕ → Bool
+  is_set k = pointwise eqb (set_tokens k) l
+
+  pub kind_is : (k : ℕ) → is_set k ≡ true → kind_of (set_tokens k) ≡ kind_of l
+  kind_is k e = sym (ap kind_of (same_list_lem l (set_tokens k) (same_slices l (set_tokens k) ∙ e)))
 
   pub kind_none : length l ≡ 4
-      → same_list l (set_tokens 0) ≡ false → same_list l (set_tokens 1) ≡ false → same_list l (set_tokens 2) ≡ false
-      → same_list l (set_tokens 3) ≡ false → same_list l (set_tokens 4) ≡ false → none ≡ kind_of l
+      → is_set 0 ≡ false → is_set 1 ≡ false → is_set 2 ≡ false → is_set 3 ≡ false → is_set 4 ≡ false → none ≡ kind_of l
   unfolding kind_from set_symbol tokens
   kind_none four a b c d e =
       rw (
@@ -171,7 +151,48 @@ module _ (l : List ℕ) where
       )
       (hard_reset_only (eqb (common (get_or ordered_sets 5 []) (map set_symbol l)) 4))
 
+-- the sets with their kinds, and whether octets begin with a set
+abbrev pub sets : List (List ℕ × SopKind)
+sets = (set_tokens 0, Sop) ∷ (set_tokens 1, SopPrime) ∷ (set_tokens 2, SopDoublePrime) ∷ (set_tokens 3, SopPrimeDebug) ∷ (set_tokens 4, SopDoublePrimeDebug) ∷ []
+
+abbrev pub begins : List ℕ → List ℕ × SopKind → Bool
+begins l x = pointwise eqb x.0 (take (length x.0) l)
+
+in_sets : (l : List ℕ) → 4 ≤ length l → sop_kind (option_map (λ (x : List ℕ × SopKind). x.1) (find (begins l) sets)) ≡ kind_of (take 4 l)
+unfolding kind_from common set_symbol
+in_sets l h = go (is_set (take 4 l) 0) refl (is_set (take 4 l) 1) refl (is_set (take 4 l) 2) refl (is_set (take 4 l) 3) refl (is_set (take 4 l) 4) refl
+  where
+    go : (a : Bool) → is_set (take 4 l) 0 ≡ a → (b : Bool) → is_set (take 4 l) 1 ≡ b → (c : Bool) → is_set (take 4 l) 2 ≡ c
+        → (d : Bool) → is_set (take 4 l) 3 ≡ d → (e : Bool) → is_set (take 4 l) 4 ≡ e
+        → sop_kind (option_map (λ (x : List ℕ × SopKind). x.1) (cond a (rust.Some (set_tokens 0, Sop)) (cond b (rust.Some (set_tokens 1, SopPrime)) (cond c (rust.Some (set_tokens 2, SopDoublePrime)) (cond d (rust.Some (set_tokens 3, SopPrimeDebug)) (cond e (rust.Some (set_tokens 4, SopDoublePrimeDebug)) rust.None)))))) ≡ kind_of (take 4 l)
+    go true p b q c r d s e t = kind_is (take 4 l) 0 p
+    go false p true q c r d s e t = kind_is (take 4 l) 1 q
+    go false p false q true r d s e t = kind_is (take 4 l) 2 r
+    go false p false q false r true s e t = kind_is (take 4 l) 3 s
+    go false p false q false r false s true t = kind_is (take 4 l) 4 t
+    go false p false q false r false s false t = kind_none (take 4 l) (length-take-le 4 l h) p q r s t
+
+-- what was found is a reference to a set and its kind
+pub kind_found : {X : Type 0} (f : X → List ℕ × SopKind) (r : rust.Option X) (l : List ℕ) → 4 ≤ length l → option_map f r ≡ find (begins l) sets
+    → sop_kind (option_map (λ (x : X). (f x).1) r) ≡ kind_of (take 4 l)
+kind_found {X} f r l h e = ap sop_kind (fused r ∙ ap (option_map (λ (x : List ℕ × SopKind). x.1)) e) ∙ in_sets l h
+  where
+    fused : (o : rust.Option X) → option_map (λ (x : X). (f x).1) o ≡ option_map (λ (x : List ℕ × SopKind). x.1) (option_map f o)
+    fused (rust.Some x) = refl
+    fused rust.None = refl
+
 -- ---- the message
+
+-- the SOP kinds' numbers are below 5
+pub sop_below : (s : SopKind) → sop_number s < sop_kinds
+sop_below Sop = omega arith
+sop_below SopPrime = omega arith
+sop_below SopDoublePrime = omega arith
+sop_below SopPrimeDebug = omega arith
+sop_below SopDoublePrimeDebug = omega arith
+
+pub sop_four : (s : SopKind) (k : ℕ) → sop_number s ≡ k → k ≤ 4
+sop_four s k e = omega (arith, sop_below s)
 
 -- a token announces no octet, or two at least
 counted : (x : ℕ) → (announced x ≡ 0 → ⊥) → 2 ≤ announced x
@@ -205,9 +226,13 @@ longer [] (y ∷ b) h = refl
 longer (x ∷ a) [] h = refl
 longer (x ∷ a) (y ∷ b) h = simp (longer a b (λ e. h (ap suc e)), and-false)
 
--- a kind below 5 says which set it is
-sop_is : (o : Option ℕ) (k : ℕ) → k < sop_kinds → sop_kind k ≡ sop_only o → o ≡ some k
-sop_is o k h e = go o (sym (rw (lt-ltb k sop_kinds h) at e))
+chosen : (r : Bool) (m : Message) (l : List ℕ) → spelt_as (then_some r m) l ≡ cond r (some (record { kind = sop_number m.kind; octets = take m.count (drop 5 l) })) none
+chosen true m l = refl
+chosen false m l = refl
+
+-- an SOP kind says which set it is
+sop_is : (o : Option ℕ) (k : ℕ) → some k ≡ sop_only o → o ≡ some k
+sop_is o k e = go o (sym e)
   where
     under : (j : ℕ) (b : Bool) → cond b (some j) none ≡ some k → some j ≡ some k
     under j true e = e
@@ -252,47 +277,20 @@ module _ (octets : List ℕ) (len : ℕ) where
     unfolding spelt
     at_length = rw (take-take 4 len octets (omega arith), get_or-take len octets 4 0 (omega arith), ← count)
 
-    end : drop (5 + n) (take len octets) ≡ get_or octets (n + 5) 0 ∷ get_or octets (n + 6) 0 ∷ get_or octets (n + 7) 0 ∷ []
-    end =
-        let q = take len octets in
-        let l = length-take-le len octets room in
-        let e5 : 5 + n ≡ n + 5 = omega arith in
-        let e6 : suc (n + 5) ≡ n + 6 = omega arith in
-        let e7 : suc (n + 6) ≡ n + 7 = omega arith in
-        rw (
-          e5,
-          drop-cons q (n + 5) 0 (omega arith),
-          e6,
-          drop-cons q (n + 6) 0 (omega arith),
-          e7,
-          drop-cons q (n + 7) 0 (omega arith),
-          drop_of_length-le q {i = suc (n + 7)} (omega arith),
-          get_or-take len octets (n + 5) 0 (omega arith),
-          get_or-take len octets (n + 6) 0 (omega arith),
-          get_or-take len octets (n + 7) 0 (omega arith),
-        )
-
+    -- of what set's kind it is, and whether it has a message's end
     pub spelt_unset : none ≡ kind_of (take 4 octets) → none ≡ spelt (take len octets)
     spelt_unset e = no_sop _ n (take len octets) e ∙ sym at_length
 
-    ended_else : same_list (get_or octets (n + 5) 0 ∷ get_or octets (n + 6) 0 ∷ get_or octets (n + 7) 0 ∷ []) closing ≡ false
-        → none ≡ spelt (take len octets)
-    ended_else e = no_end _ n (take len octets) (rw end (simp (e, and-false))) ∙ sym at_length
-
-    pub spelt_no_crc : (get_or octets (n + 5) 0 ≡ CRC → ⊥) → none ≡ spelt (take len octets)
-    spelt_no_crc h = ended_else (simp (ne_eqb _ _ h))
-
-    pub spelt_no_eop : (get_or octets (n + 6) 0 ≡ EOP → ⊥) → none ≡ spelt (take len octets)
-    spelt_no_eop h = ended_else (simp (ne_eqb _ _ h, and-false))
-
-    pub spelt_no_off : (get_or octets (n + 7) 0 ≡ TXOFF → ⊥) → none ≡ spelt (take len octets)
-    spelt_no_off h = ended_else (simp (ne_eqb _ _ h, and-false))
-
-    pub spelt_whole : (k : ℕ) → (n ≡ 0 → ⊥) → sop_kind k ≡ kind_of (take 4 octets) → k ≤ 5 → (k ≡ 5 → ⊥)
-        → get_or octets (n + 5) 0 ≡ CRC → get_or octets (n + 6) 0 ≡ EOP → get_or octets (n + 7) 0 ≡ TXOFF
-        → some (record { kind = k; octets = take n (drop 5 (take len octets)) }) ≡ spelt (take len octets)
+    pub spelt_set : (s : SopKind) → (n ≡ 0 → ⊥) → some (sop_number s) ≡ kind_of (take 4 octets)
+        → (r : Bool) → r ≡ ends_with eqb (take len octets) closing
+        → spelt_as (then_some r (record { kind = s; count = n })) (take len octets) ≡ spelt (take len octets)
     unfolding spelt_by carries
-    spelt_whole k some-n kind lo hi crc eop off =
+    spelt_set s some-n kind r ends =
         let two : 2 ≤ n = omega (arith, counted (get_or octets 4 0) (λ e. some-n (count ∙ e))) in
-        let sop : kind_from 0 ordered_sets (map set_symbol (take 4 octets)) ≡ some k = sop_is _ k (omega arith) kind in
-        sym (at_length ∙ rw (sop, end, crc, eop, off, le-leb 2 n two, lt-ltb k sop_kinds (omega arith)))
+        let q = take len octets in
+        let at : 5 + n ≡ length q - 3 = omega (arith, length-take-le len octets room) in
+        let end : same_list (drop (5 + n) q) closing ≡ r =
+        same_slices (drop (5 + n) q) closing ∙ ap (λ i. pointwise eqb closing (drop i q)) at ∙ sym ends in
+        let sop : kind_from 0 ordered_sets (map set_symbol (take 4 octets)) ≡ some (sop_number s) = sop_is _ (sop_number s) kind in
+        chosen r (record { kind = s; count = n }) q
+        ∙ sym (at_length ∙ rw (sop, end, le-leb 2 n two, lt-ltb (sop_number s) sop_kinds (sop_below s)) refl)

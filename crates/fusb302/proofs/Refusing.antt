@@ -2,13 +2,15 @@
 -- Assumes nothing.
 use mathlib.Core.Path.{◌≡◌, refl, sym, ap, ◌∙◌}
 use mathlib.Core.Bool.{Bool, true, false, not, cond, ◌&&◌, ◌||◌, or-false, and-eq-true_iff}
-use mathlib.Core.List.{List, []}
+use mathlib.Core.List.{[]}
 use mathlib.Core.Option.{Option, none, some}
 use Prim.Native.Nat.{ℕ, zero, suc, ◌<◌, ◌≤◌}
 use native.Mathlib.Omega.{arith}
-use borrow.Author.Tests.{lt-ltb, le-ltb, le-leb, lt-leb, leb-true, leb-false, eq-eqb, ne_eqb, not-true, not-false}
+use borrow.Author.Tests.{lt-ltb, le-ltb, le-leb, lt-leb, leb-true, leb-false, eqb-true, ne_eqb, not-true}
 use lib.Dec.{ltb, leb, eqb}
 use lib.ListN.{length, get_or}
+use Rattle.std.specs.Prelude as rust
+use Rattle.std.specs.Prelude.{Some, None, Result, Ok, Err, ⊤}
 use Rattle.line.specs.Write.{frame_room}
 use Rattle.machine.specs.Registers.{
   cell,
@@ -25,32 +27,25 @@ use Rattle.machine.specs.Registers.{
   TX_START,
   SEND_HARD_RESET,
 }
-use Rattle.machine.specs.State as machine
 use Rattle.machine.specs.State.{State, reg}
 use Rattle.machine.specs.Status.{tx_room}
-use Rattle.machine.specs.Queue.{START, set_symbol, is_token, inside, spelt, is_message, is_some}
+use Rattle.machine.specs.Queue.{START, set_symbol, is_token, inside, is_message, is_some}
 use Rattle.machine.specs.Requests.{opened, driver_on}
 use Rattle.machine.specs.Events.{write}
 use Rattle.machine.specs.Refusals.{tx_start, port_start, starts, sends_reset, to_be_stored, queue_at, refusal}
 use Rattle.machine.proofs.Checking.{write_checks}
 use Rattle.machine.proofs.Spelling.{spelt_nil}
-use Rattle.fusb302.specs.declared.queue.Message.{Message}
-use Rattle.fusb302.specs.declared.queue.Message.TheVariants.{Spelt, Nothing}
 use Rattle.fusb302.specs.declared.device.Device.{Device}
-use Rattle.fusb302.specs.Queued.{queued, spelt_as}
-use Rattle.fusb302.specs.View.{asked, view, Arranged}
-use Rattle.fusb302.specs.Serves.{no_of, start_no, Refuses}
+use Rattle.fusb302.specs.declared.device.Request.{Request}
+use Rattle.fusb302.specs.Queued.{queued}
+use Rattle.fusb302.specs.View.{request_of, view}
+use Rattle.fusb302.specs.declared.refusals.No.{No}
+use Rattle.fusb302.specs.declared.refusals.No.TheVariants.{NoSuchAddress, ReadOnly, RequestOpen, NotAToken, NotAMessage}
+use Rattle.fusb302.specs.Serves.{no_of, sending_no, start_no, storing_no, Refuses}
 use Rattle.fusb302.proofs.Showing.{queued_length}
 use Rattle.fusb302.proofs.Answering.{at_id, at_stored, at_shown}
 
 -- ---- a start
-
-module _ (m : Message) (q : List ℕ) (h : spelt_as m q ≡ spelt q) where
-  pub is_spelt : (k n : ℕ) → m ≡ Spelt k n → is_message q ≡ true
-  is_spelt k n e = rw (← h, e) refl
-
-  pub not_spelt : m ≡ Nothing → is_message q ≡ false
-  not_spelt e = rw (← h, e) refl
 
 -- its queue spells a message, and its driver is on
 abbrev whole : Device → Bool
@@ -79,23 +74,26 @@ port_checks s room v h = write_checks s room fifos v ∙ simp (le-ltb room frame
 abbrev full : Device → Bool
 full d = leb tx_room d.tx.len
 
--- a start, and an octet to be stored
+-- a start, an octet that is no token, and an octet to be stored
 start_no_lem : (full whole on : Bool) → port_no false false true true full whole on ≡ no_of (start_no whole on)
 start_no_lem full true true = refl
 start_no_lem full true false = refl
 start_no_lem full false on = refl
 
-token_no : (full whole on : Bool) → port_no false false true false full whole on ≡ no_of (cond full 5 0)
-token_no true whole on = refl
-token_no false whole on = refl
+bad_no : (within token begin full whole on : Bool) → (not within && not token) ≡ true
+    → port_no false within token begin full whole on ≡ no_of (Err NotAToken)
+bad_no false false begin full whole on h = refl
+bad_no false true begin full whole on h = cc
+bad_no true token begin full whole on h = cc
 
-data_no : (token begin full whole on : Bool) → port_no false true token begin full whole on ≡ no_of (cond full 5 0)
-data_no token begin true whole on = refl
-data_no token begin false whole on = refl
-
-some_if : (b : Bool) (q : machine.Request) → is_some (cond b (some q) none) ≡ b
-some_if true q = refl
-some_if false q = refl
+store_no : (within token begin full whole on : Bool) → (not within && begin) ≡ false → (not within && not token) ≡ false
+    → port_no false within token begin full whole on ≡ no_of (storing_no full)
+store_no true token begin true whole on h k = refl
+store_no true token begin false whole on h k = refl
+store_no false true false true whole on h k = refl
+store_no false true false false whole on h k = refl
+store_no false true true full whole on h k = cc
+store_no false false begin full whole on h k = cc
 
 none_inside : (n : ℕ) → not (ltb 0 n) ≡ eqb n 0
 none_inside zero = refl
@@ -111,13 +109,17 @@ room_left false false false begin true whole on e k = cc
 room_left false false true true true whole on e k = k
 room_left false false true false true whole on e k = cc
 
-opened_is : (d : Device) → opened (view d) ≡ d.request.active
-opened_is d = some_if d.request.active (asked d.request)
+opened_is : (d : Device) → opened (view d) ≡ rust.is_some d.request
+opened_is d = go d.request
+  where
+    go : (o : rust.Option Request) → is_some (request_of o) ≡ rust.is_some o
+    go (Some q) = refl
+    go None = refl
 
-module _ (d : Device) (arranged : Arranged d) where
+module _ (d : Device) where
   outside : not (inside (queued d.tx)) ≡ eqb d.tx.left 0
   unfolding inside
-  outside = ap (λ (n : ℕ). not (ltb 0 n)) (sym arranged.tx.left) ∙ none_inside d.tx.left
+  outside = ap (λ (n : ℕ). not (ltb 0 n)) (sym d.tx.counted) ∙ none_inside d.tx.left
 
   -- A1 at the port, where it is not data
   pub port_start_is : (v : ℕ) → port_start (view d) fifos v ≡ (eqb d.tx.left 0 && eqb v START)
@@ -125,51 +127,52 @@ module _ (d : Device) (arranged : Arranged d) where
   port_start_is v = ap (λ (b : Bool). b && eqb v START) outside
 
   module _ (v : ℕ) where
-    pub port_busy : d.request.active ≡ true → Refuses (view d) fifos v 6
+    pub port_busy : rust.is_some d.request ≡ true → Refuses (view d) fifos v (Err RequestOpen)
     port_busy h = record { is = λ room r. port_checks (view d) room v r ∙ rw (opened_is d ∙ h) refl }
 
-    module _ (free : d.request.active ≡ false) where
-      at_port : (n : ℕ) (within token begin : Bool) → inside (queued d.tx) ≡ within → is_token v ≡ token → eqb v START ≡ begin
-          → port_no false within token begin (full d) (whole d) (on d) ≡ no_of n
-          → Refuses (view d) fifos v n
+    module _ (free : rust.is_some d.request ≡ false) where
+      at_port : (r : Result ⊤ No)
+          → port_no false (inside (queued d.tx)) (is_token v) (eqb v START) (full d) (whole d) (on d) ≡ no_of r
+          → Refuses (view d) fifos v r
       unfolding cell
-      at_port n within token begin p q r e =
+      at_port r e =
           record {
             is = λ room h.
                 port_checks (view d) room v h
-                ∙ rw (opened_is d ∙ free, p, q, r, queued_length d.tx arranged.tx) e;
+                ∙ rw (opened_is d ∙ free, queued_length d.tx) e;
           }
 
-      pub port_data : (d.tx.left ≡ 0 → ⊥) → (n : ℕ) → n ≡ cond (full d) 5 0 → Refuses (view d) fifos v n
-      port_data h n e =
-          at_port n true (is_token v) (eqb v START) (not-false _ (outside ∙ ne_eqb _ _ h)) refl refl
-          (data_no (is_token v) (eqb v START) (full d) (whole d) (on d) ∙ ap no_of (sym e))
+      pub port_start_lem : (eqb d.tx.left 0 && eqb v START) ≡ true → (r : Result ⊤ No) → r ≡ start_no (whole d) (on d)
+          → Refuses (view d) fifos v r
+      unfolding is_token set_symbol
+      port_start_lem h r e =
+          let both = (and-eq-true_iff (eqb d.tx.left 0) (eqb v START)).0 h in
+          at_port r
+          (rw (not-true _ (outside ∙ both.0), ap is_token (eqb-true v START both.1), both.1)
+          (start_no_lem (full d) (whole d) (on d) ∙ ap no_of (sym e)))
 
-      module _ (h : d.tx.left ≡ 0) where
-        token : inside (queued d.tx) ≡ false
-        token = not-true _ (outside ∙ eq-eqb _ _ h)
+      pub port_bad : (eqb d.tx.left 0 && not (is_token v)) ≡ true → Refuses (view d) fifos v (Err NotAToken)
+      port_bad h =
+          at_port (Err NotAToken)
+          (bad_no (inside (queued d.tx)) (is_token v) (eqb v START) (full d) (whole d) (on d)
+          (ap (λ (b : Bool). b && not (is_token v)) outside ∙ h))
 
-        pub port_start_lem : v ≡ START → (n : ℕ) → n ≡ start_no (whole d) (on d) → Refuses (view d) fifos v n
-        unfolding is_token set_symbol
-        port_start_lem s n e =
-            at_port n false true true token (ap is_token s) (eq-eqb _ _ s) (start_no_lem (full d) (whole d) (on d) ∙ ap no_of (sym e))
+      pub port_store : (eqb d.tx.left 0 && eqb v START) ≡ false → (eqb d.tx.left 0 && not (is_token v)) ≡ false
+          → (r : Result ⊤ No) → r ≡ storing_no (full d) → Refuses (view d) fifos v r
+      port_store h k r e =
+          at_port r
+          (store_no (inside (queued d.tx)) (is_token v) (eqb v START) (full d) (whole d) (on d)
+          (ap (λ (b : Bool). b && eqb v START) outside ∙ h) (ap (λ (b : Bool). b && not (is_token v)) outside ∙ k)
+          ∙ ap no_of (sym e))
 
-        module _ (s : v ≡ START → ⊥) where
-          pub port_token : is_token v ≡ true → (n : ℕ) → n ≡ cond (full d) 5 0 → Refuses (view d) fifos v n
-          port_token t n e =
-              at_port n false true false token t (ne_eqb _ _ s) (token_no (full d) (whole d) (on d) ∙ ap no_of (sym e))
-
-          pub port_bad : is_token v ≡ false → Refuses (view d) fifos v 3
-          port_bad t = at_port 3 false false false token t (ne_eqb _ _ s) refl
-
-    pub port_room : Refuses (view d) fifos v 0 → (eqb d.tx.left 0 && eqb v START) ≡ false → d.tx.len < tx_room
+    pub port_room : Refuses (view d) fifos v (Ok tt) → (eqb d.tx.left 0 && eqb v START) ≡ false → d.tx.len < tx_room
     port_room taken h =
         let none_left : leb tx_room (length (queued d.tx)) ≡ false =
         room_left (opened (view d)) (inside (queued d.tx)) (is_token v) (eqb v START) _ (whole d) (driver_on (reg switches1 (view d)))
         (sym (port_checks (view d) frame_room v (omega arith)) ∙ taken.is frame_room (omega arith))
         (ap (λ (b : Bool). b && eqb v START) outside ∙ h) in
         let few = leb-false tx_room (length (queued d.tx)) none_left in
-        omega (arith, queued_length d.tx arranged.tx)
+        omega (arith, queued_length d.tx)
 
 -- ---- other addresses
 
@@ -179,24 +182,24 @@ there true false o h = (refl, refl)
 there false r o h = let z : ◌≡◌ {A = ℕ} 0 1 = cc in absurd (omega arith)
 
 module _ (s : State) (a v : ℕ) where
-  pub write_nowhere : exists a ≡ false → Refuses s a v 1
+  pub write_nowhere : exists a ≡ false → Refuses s a v (Err NoSuchAddress)
   write_nowhere e = record { is = λ room h. write_checks s room a v ∙ rw (le-ltb room frame_room h, e) refl }
 
-  read_only_lem : exists a ≡ true → read_only a ≡ true → Refuses s a v 2
+  read_only_lem : exists a ≡ true → read_only a ≡ true → Refuses s a v (Err ReadOnly)
   read_only_lem e k = record { is = λ room h. write_checks s room a v ∙ rw (le-ltb room frame_room h, e, k) refl }
 
-  pub write_id : a ≡ device_id → Refuses s a v 2
+  pub write_id : a ≡ device_id → Refuses s a v (Err ReadOnly)
   unfolding read_only
   write_id e = read_only_lem (at_id a e).0 (rw e refl)
 
-  pub write_shown : (0x3C ≤ a) × (a ≤ 0x42) → Refuses s a v 2
+  pub write_shown : (0x3C ≤ a) × (a ≤ 0x42) → Refuses s a v (Err ReadOnly)
   unfolding read_only
   write_shown h =
       let w = at_shown a h.0 h.1 in
       read_only_lem w.0 (rw (w.3, le-leb 0x3C a h.0, le-leb a 0x42 h.1) refl)
 
   -- an address that is written, other than the port, is stored
-  pub taken_stored : Refuses s a v 0 → (a ≡ fifos → ⊥) → (2 ≤ a) × (a ≤ 0x10)
+  pub taken_stored : Refuses s a v (Ok tt) → (a ≡ fifos → ⊥) → (2 ≤ a) × (a ≤ 0x10)
   unfolding exists is_stored
   taken_stored taken n =
       let p = there (exists a) (read_only a) _ (sym (write_checks s frame_room a v) ∙ taken.is frame_room (omega arith)) in
@@ -221,55 +224,55 @@ module _ (s : State) (a v : ℕ) (lo : 2 ≤ a) (hi : a ≤ 0x10) where
       write_checks s room a v ∙ simp (le-ltb room frame_room h, w.0, w.1, w.3, lt-leb 0x3C a (omega arith), or-false)
 
   -- no start, and no Hard Reset
-  quiet : tx_start a v ≡ false → sends_reset a v ≡ false → Refuses s a v 0
+  quiet : tx_start a v ≡ false → sends_reset a v ≡ false → Refuses s a v (Ok tt)
   quiet p q = record { is = λ room h. register_checks room h ∙ rw (p, q) refl }
 
-  pub not_command : (a ≡ control0 → ⊥) → (a ≡ control3 → ⊥) → Refuses s a v 0
+  pub not_command : (a ≡ control0 → ⊥) → (a ≡ control3 → ⊥) → Refuses s a v (Ok tt)
   unfolding tx_start sends_reset
   not_command p q = quiet (rw (ne_eqb _ _ p) refl) (rw (ne_eqb _ _ q) refl)
 
 -- Control0 and Control3
 module _ (d : Device) (v : ℕ) where
-  pub control0_quiet : has TX_START v ≡ false → Refuses (view d) control0 v 0
+  pub control0_quiet : has TX_START v ≡ false → Refuses (view d) control0 v (Ok tt)
   unfolding tx_start sends_reset
   control0_quiet h = quiet (view d) control0 v (omega arith) (omega arith) h refl
 
-  pub control3_quiet : has SEND_HARD_RESET v ≡ false → Refuses (view d) control3 v 0
+  pub control3_quiet : has SEND_HARD_RESET v ≡ false → Refuses (view d) control3 v (Ok tt)
   unfolding tx_start sends_reset
   control3_quiet h = quiet (view d) control3 v (omega arith) (omega arith) refl h
 
-  module _ (h : has SEND_HARD_RESET v ≡ true) where
-    at_reset : (n : ℕ) (b : Bool) → on d ≡ b → cond {A = Option ℕ} (not b) (some 7) none ≡ no_of n → Refuses (view d) control3 v n
-    unfolding tx_start sends_reset cell
-    at_reset n b e k =
-        record { is = λ room r. register_checks (view d) control3 v (omega arith) (omega arith) room r ∙ rw (h, e) k }
-
-    pub control3_on : on d ≡ true → Refuses (view d) control3 v 0
-    control3_on e = at_reset 0 true e refl
-
-    pub control3_off : on d ≡ false → Refuses (view d) control3 v 7
-    control3_off e = at_reset 7 false e refl
+  pub control3_sends : has SEND_HARD_RESET v ≡ true → (r : Result ⊤ No) → r ≡ sending_no (on d) → Refuses (view d) control3 v r
+  unfolding tx_start sends_reset cell
+  control3_sends h r e =
+      record {
+        is = λ room x.
+            register_checks (view d) control3 v (omega arith) (omega arith) room x ∙ rw h (sending (on d)) ∙ ap no_of (sym e);
+      }
+    where
+      sending : (b : Bool) → cond {A = Option ℕ} (not b) (some 7) none ≡ no_of (sending_no b)
+      sending true = refl
+      sending false = refl
 
   module _ (h : has TX_START v ≡ true) where
-    at_start : (n : ℕ) (busy flush : Bool) → d.request.active ≡ busy → has TX_FLUSH v ≡ flush
-        → cond busy (some 6) (cond (not (is_message (cond flush [] (queued d.tx)))) (some 4) (cond (not (on d)) (some 7) none)) ≡ no_of n
-        → Refuses (view d) control0 v n
+    at_start : (r : Result ⊤ No) (busy flush : Bool) → rust.is_some d.request ≡ busy → has TX_FLUSH v ≡ flush
+        → cond busy (some 6) (cond (not (is_message (cond flush [] (queued d.tx)))) (some 4) (cond (not (on d)) (some 7) none)) ≡ no_of r
+        → Refuses (view d) control0 v r
     unfolding tx_start sends_reset queue_at cell
-    at_start n busy flush p q e =
-        record { is = λ room r. register_checks (view d) control0 v (omega arith) (omega arith) room r ∙ rw (h, opened_is d ∙ p, q) e }
+    at_start r busy flush p q e =
+        record { is = λ room x. register_checks (view d) control0 v (omega arith) (omega arith) room x ∙ rw (h, opened_is d ∙ p, q) e }
 
-    pub control0_busy : d.request.active ≡ true → Refuses (view d) control0 v 6
-    control0_busy p = at_start 6 true (has TX_FLUSH v) p refl refl
+    pub control0_busy : rust.is_some d.request ≡ true → Refuses (view d) control0 v (Err RequestOpen)
+    control0_busy p = at_start (Err RequestOpen) true (has TX_FLUSH v) p refl refl
 
-    pub control0_flush : d.request.active ≡ false → has TX_FLUSH v ≡ true → Refuses (view d) control0 v 4
-    control0_flush p q = at_start 4 false true p q (rw spelt_nil refl)
+    pub control0_flush : rust.is_some d.request ≡ false → has TX_FLUSH v ≡ true → Refuses (view d) control0 v (Err NotAMessage)
+    control0_flush p q = at_start (Err NotAMessage) false true p q (rw spelt_nil refl)
 
-    pub control0_start : d.request.active ≡ false → has TX_FLUSH v ≡ false → (n : ℕ)
-        → n ≡ start_no (whole d) (on d) → Refuses (view d) control0 v n
-    control0_start p q n e = at_start n false false p q (start_no_lem false (whole d) (on d) ∙ ap no_of (sym e))
+    pub control0_start : rust.is_some d.request ≡ false → has TX_FLUSH v ≡ false → (r : Result ⊤ No)
+        → r ≡ start_no (whole d) (on d) → Refuses (view d) control0 v r
+    control0_start p q r e = at_start r false false p q (start_no_lem false (whole d) (on d) ∙ ap no_of (sym e))
 
   -- a start that is taken flushes nothing
-  pub no_flush : Refuses (view d) control0 v 0 → has TX_START v ≡ true → has TX_FLUSH v ≡ false
+  pub no_flush : Refuses (view d) control0 v (Ok tt) → has TX_START v ≡ true → has TX_FLUSH v ≡ false
   unfolding tx_start sends_reset queue_at
   no_flush taken h =
       go (has TX_FLUSH v) (opened (view d)) _

@@ -1,5 +1,7 @@
 -- Frames that are sent: written whole, a header alone, and the message that a queue spells.
 -- Assumes nothing.
+use Rattle.std.specs.Prelude as rust
+use Rattle.std.specs.Prelude.{Some, None}
 use mathlib.Core.Path.{◌≡◌, refl, sym, ap, ◌∙◌}
 use mathlib.Core.Bool.{false}
 use mathlib.Core.List.{List, [], ◌∷◌, append-nil}
@@ -9,9 +11,10 @@ use native.Mathlib.Omega.{arith}
 use borrow.Author.Tests.{lt-ltb, le-ltb, eq-eqb}
 use lib.ListN.{length, take, drop, length-take, length-drop, length-append}
 use lib.Seq.{take-take}
-use Rattle.line.specs.declared.write.Written.{Written}
-use Rattle.line.specs.declared.write.Written.TheVariants.{Sent}
-use Rattle.line.specs.Kind.{kinds, sop_kinds}
+use Rattle.std.specs.Prelude.{Result, Ok, Err}
+use Rattle.line.specs.declared.write.WriteError.{WriteError}
+use Rattle.line.specs.Numbered.{sop_number}
+use Rattle.line.specs.Kind.{kinds}
 use Rattle.line.specs.Frame.{Frame, Whole, message, alone, symbols_of, joined}
 use Rattle.line.specs.Refusal.{first_no}
 use Rattle.line.specs.Write.{frame_room, wrong_length, writer_rows, wrote, lent, Writes}
@@ -21,7 +24,6 @@ use Rattle.machine.specs.Queue.{spelt}
 use Rattle.machine.proofs.Spelling.{set_four, spelt_exactly}
 use Rattle.fusb302.specs.declared.queue.Queue.{Queue}
 use Rattle.fusb302.specs.declared.queue.Message.{Message}
-use Rattle.fusb302.specs.declared.queue.Message.TheVariants.{Spelt, Nothing}
 use Rattle.fusb302.specs.Queued.{queued, spelt_as}
 use Rattle.fusb302.specs.Serves.{if_any, Sends}
 
@@ -33,16 +35,16 @@ right_length f (message h o lo hi) = (omega arith, simp (carrying f.kind h, le-l
 right_length f (alone h k e) = (k, simp (bare f.kind h, eq-eqb (length f.octets) 0 (ap length e)))
 
 -- written where there is room for any
-module _ (f : Frame) (before : List ℕ) (r : Written) (after : List ℕ) (whole : Whole f) (room : frame_room ≤ length before) (w : Writes f before r after) where
+module _ (f : Frame) (before : List ℕ) (r : Result ℕ WriteError) (after : List ℕ) (whole : Whole f) (room : frame_room ≤ length before) (w : Writes f before r after) where
   accepts : first_no (writer_rows f (length before)) ≡ none
   unfolding first_no
   accepts = let h = right_length f whole in simp (le-ltb (length before) frame_room room, lt-ltb f.kind kinds h.0, h.1)
 
-  pub put_said : r ≡ Sent (length (symbols_of f))
+  pub put_said : r ≡ Ok (length (symbols_of f))
   unfolding wrote
-  put_said = one_meaning_written r (Sent (length (symbols_of f))) (w.says ∙ ap (λ o. wrote o f) accepts)
+  put_said = one_meaning_written r (Ok (length (symbols_of f))) (w.says ∙ ap (λ o. wrote o f) accepts)
 
-  pub put_sent : (n : ℕ) → r ≡ Sent n → Sends (f ∷ []) before n after
+  pub put_sent : (n : ℕ) → r ≡ Ok n → Sends (f ∷ []) before n after
   unfolding lent joined
   put_sent n e =
       let all = append-nil (symbols_of f) in
@@ -74,26 +76,26 @@ counted q k n e =
     omega arith
 
 -- what was answered of it
-module _ (tx : Queue) (r : Message) (is : spelt_as r (queued tx) ≡ spelt (queued tx)) where
-  pub unspelt : r ≡ Nothing → (before : List ℕ) → Sends (if_any (spelt (queued tx))) before 0 before
+module _ (tx : Queue) (r : rust.Option Message) (is : spelt_as r (queued tx) ≡ spelt (queued tx)) where
+  pub unspelt : r ≡ None → (before : List ℕ) → Sends (if_any (spelt (queued tx))) before 0 before
   unspelt e before =
       let nothing : none ≡ spelt (queued tx) = rw e at is in
       rw (← nothing) (sends_none before)
 
-  module _ (k n : ℕ) (e : r ≡ Spelt k n) where
-    pub by_count : spelt (queued tx) ≡ some (record { kind = k; octets = take n (drop 5 (queued tx)) })
+  module _ (m : Message) (e : r ≡ Some m) where
+    pub by_count : spelt (queued tx) ≡ some (record { kind = sop_number m.kind; octets = take m.count (drop 5 (queued tx)) })
     by_count = sym (rw e at is)
 
-    pub spelt_kind : k < sop_kinds
-    spelt_kind = ((spelt_exactly (queued tx) _).0 by_count).sop
+    inside : (5 + m.count ≤ tx.len) × (5 + m.count ≤ length tx.octets)
+    inside =
+        let c = counted (queued tx) (sop_number m.kind) m.count by_count in
+        let l = length-take tx.len tx.octets in
+        (omega arith, omega arith)
 
-    inside : (5 + n ≤ tx.len) × (5 + n ≤ length tx.octets)
-    inside = let c = counted (queued tx) k n by_count in let m = length-take tx.len tx.octets in (omega arith, omega arith)
-
-    pub in_array : 5 + n ≤ length tx.octets
+    pub in_array : 5 + m.count ≤ length tx.octets
     in_array = inside.1
 
-    pub spelt_in_array : spelt (queued tx) ≡ some (record { kind = k; octets = take (5 + n - 5) (drop 5 tx.octets) })
+    pub spelt_in_array : spelt (queued tx) ≡ some (record { kind = sop_number m.kind; octets = take (5 + m.count - 5) (drop 5 tx.octets) })
     spelt_in_array =
-        let less : 5 + n - 5 ≡ n = omega arith in
-        by_count ∙ ap (λ l. some (record { kind = k; octets = l })) (rw less (within 5 n tx.len tx.octets inside.0))
+        let less : 5 + m.count - 5 ≡ m.count = omega arith in
+        by_count ∙ ap (λ l. some (record { kind = sop_number m.kind; octets = l })) (rw less (within 5 m.count tx.len tx.octets inside.0))

@@ -1,13 +1,16 @@
 -- What a write does: each way out of the functions that carry it out.
 -- Assumes nothing.
+use Rattle.std.specs.Prelude.{None}
 use mathlib.Core.Path.{◌≡◌, refl, sym, ap, ap₂, ◌∙◌}
 use mathlib.Core.Bool.{Bool, true, false, ◌&&◌}
+use mathlib.Core.Option.{some}
 use mathlib.Core.List.{List, [], ◌∷◌, ◌++◌}
-use Prim.Native.Nat.{ℕ, zero, suc, ◌-◌, ◌<◌, ◌≤◌}
+use Prim.Native.Nat.{ℕ, ◌-◌, ◌<◌}
 use borrow.Author.Tests.{lt-ltb, eq-eqb, ne_eqb}
 use lib.Bits.{bit_and}
 use lib.Dec.{eqb}
-use lib.ListN.{length, get_or, set, length-set}
+use lib.ListN.{length, drop, get_or, set}
+use Rattle.std.specs.Array.{IsFirstChunk}
 use Rattle.line.specs.Frame.{joined}
 use Rattle.line.specs.Write.{frame_room}
 use Rattle.machine.specs.Registers.{
@@ -60,17 +63,19 @@ use Rattle.fusb302.specs.declared.fifo.Fifo.{Fifo}
 use Rattle.fusb302.specs.declared.device.Status.{Status}
 use Rattle.fusb302.specs.declared.device.Request.{Request}
 use Rattle.fusb302.specs.declared.device.Device.{Device}
-use Rattle.fusb302.specs.declared.device.Reply.TheVariants.{No}
+use Rattle.std.specs.Prelude.{Ok, Err}
+use Rattle.fusb302.specs.declared.refusals.No.TheVariants.{SmallBuffer}
 use Rattle.fusb302.specs.declared.device.Outcome.{Outcome}
-use Rattle.fusb302.specs.Queued.{queued, Kept}
-use Rattle.fusb302.specs.Held.{held, Sound}
+use Rattle.fusb302.specs.declared.refusals.No.{No}
+use Rattle.fusb302.specs.Queued.{queued}
+use Rattle.fusb302.specs.Held.{held}
 use Rattle.fusb302.specs.declared.pins.Readings.{Readings}
 use Rattle.fusb302.specs.Sensed.{pins_of, shown_as}
-use Rattle.fusb302.specs.View.{request_of, status_of, view, Arranged, Asks, PoweredUp}
-use Rattle.fusb302.specs.Serves.{if_any, replied, Becomes, Sends, Does, DoesQuietly, Serves, Refuses}
-use Rattle.fusb302.proofs.Serving.{serves_no, serves_yes}
+use Rattle.fusb302.specs.View.{asked, status_of, view, Asks, PoweredUp}
+use Rattle.fusb302.specs.Serves.{if_any, Becomes, Sends, Does, DoesQuietly, Serves, Refuses}
+use Rattle.fusb302.proofs.Serving.{serves_no, serves_no_in, serves_in}
 use Rattle.fusb302.proofs.Becoming.{done, itself, and_then, hushed, silently, sending, if_sending}
-use Rattle.fusb302.proofs.Showing.{queued_length}
+use Rattle.fusb302.proofs.Showing.{arranged, queued_length}
 use Rattle.fusb302.proofs.Refusing.{port_start_is}
 
 pub quiet_does : (x : Effect) (r : Outcome) → DoesQuietly x r → (before : List ℕ) → Does x before r before
@@ -89,50 +94,49 @@ quiet_does x r h before =
 abbrev latching : Device → ℕ → Bool → Bool → Request
 latching d retries soft hard =
     record {
-      active = true;
       switches1 = get_or d.cells 1 0;
       retries = retries;
       soft = soft;
       hard = hard;
-      resetting = 5;
+      resetting = None;
       sent = 0;
       waited = 0;
     }
 
 pub begins : (d : Device) (retries : ℕ) (soft hard : Bool) → retries ≡ retries_of (get_or d.cells 7 0)
     → soft ≡ has AUTO_SOFTRESET (get_or d.cells 7 0) → hard ≡ has AUTO_HARDRESET (get_or d.cells 7 0)
-    → (a b : Device) → Becomes (hides fail_bits (view d)) a → Becomes (with_request (request_of (latching d retries soft hard)) (view a)) b
+    → (a b : Device) → Becomes (hides fail_bits (view d)) a → Becomes (with_request (some (asked (latching d retries soft hard))) (view a)) b
     → (n : ℕ) (before after : List ℕ) → Sends (if_any (spelt (queued d.tx))) before n after
     → Does (start (view d)) before (done b n) after
 unfolding start latched cell
 begins d retries soft hard p q r a b x y n before after h =
     rw (← p, ← q, ← r)
-    (if_sending _ b (and_then _ a x (with_request (request_of (latching d retries soft hard))) b y) before n after (spelt (queued d.tx)) h)
+    (if_sending _ b (and_then _ a x (with_request (some (asked (latching d retries soft hard)))) b y) before n after (spelt (queued d.tx)) h)
 
 -- ---- the port
 
-module _ (d : Device) (arranged : Arranged d) (v : ℕ) where
+module _ (d : Device) (v : ℕ) where
   module _ (before : List ℕ) where
     pub port_begins : (eqb d.tx.left 0 && eqb v START) ≡ true → (r : Outcome) (after : List ℕ)
         → Does (start (view d)) before r after → Does (port_written v (view d)) before r after
     unfolding port_written
-    port_begins h r after x = rw (port_start_is d arranged v ∙ h) x
+    port_begins h r after x = rw (port_start_is d v ∙ h) x
 
     pub port_queues : (eqb d.tx.left 0 && eqb v START) ≡ false → (t : Device) → Becomes (queues v (view d)) t
         → Does (port_written v (view d)) before (done t 0) before
     unfolding port_written
-    port_queues h t x = rw (port_start_is d arranged v ∙ h) (silently _ t x before)
+    port_queues h t x = rw (port_start_is d v ∙ h) (silently _ t x before)
 
   -- an octet more in the queue
-  module _ (q : Queue) (more : Kept q × (queued q ≡ queued d.tx ++ (v ∷ []))) where
+  module _ (q : Queue) (p : length d.cells ≡ 15) (more : queued q ≡ queued d.tx ++ (v ∷ [])) where
     abbrev longer : Device
-    longer = record { cells = d.cells; tx = q; rx = d.rx; status = d.status; ints = d.ints; request = d.request; pins = d.pins }
+    longer = record { cells = d.cells; tx = q; rx = d.rx; status = d.status; ints = d.ints; request = d.request; pins = d.pins; registers = p }
 
     is_longer : Becomes (with_tx (queued d.tx ++ (v ∷ [])) (view d)) longer
-    is_longer = record { state = rw more.1 refl; arranged = record { cells = arranged.cells; tx = more.0; rx = arranged.rx } }
+    is_longer = record { state = rw more refl; arranged = arranged longer }
 
     counted : length (queued d.tx ++ (v ∷ [])) ≡ q.len
-    counted = sym (ap length more.1) ∙ queued_length q more.0
+    counted = sym (ap length more) ∙ queued_length q
 
     pub queue_on : (q.len ≡ tx_room → ⊥) → Becomes (queues v (view d)) longer
     unfolding queues
@@ -156,24 +160,24 @@ module _ (d : Device) (v : ℕ) (before : List ℕ) where
     unfolding control0_written
     control0_flushes k t x = rw (k, h) (silently _ t x before)
 
-    pub control0_rests : has TX_FLUSH v ≡ false → Arranged d → Does (control0_written v (view d)) before (done d 0) before
+    pub control0_rests : has TX_FLUSH v ≡ false → Does (control0_written v (view d)) before (done d 0) before
     unfolding control0_written
-    control0_rests k arranged = rw (k, h) (silently _ d (itself d arranged) before)
+    control0_rests k = rw (k, h) (silently _ d (itself d) before)
 
 -- ---- Control1
 
-module _ (d : Device) (arranged : Arranged d) (v : ℕ) where
-  pub control1_flushes : has RX_FLUSH v ≡ true → (f : Fifo) → Sound f → held f ≡ []
+module _ (d : Device) (v : ℕ) where
+  pub control1_flushes : has RX_FLUSH v ≡ true → (p : length d.cells ≡ 15) (f : Fifo) → held f ≡ []
       → DoesQuietly (control1_written v (view d))
-      (done (record { cells = d.cells; tx = d.tx; rx = f; status = d.status; ints = d.ints; request = d.request; pins = d.pins }) 0)
+      (done (record { cells = d.cells; tx = d.tx; rx = f; status = d.status; ints = d.ints; request = d.request; pins = d.pins; registers = p }) 0)
   unfolding control1_written
-  control1_flushes h f sound e =
+  control1_flushes h p f e =
       rw h
-      (hushed _ _ (record { state = rw e refl; arranged = record { cells = arranged.cells; tx = arranged.tx; rx = sound } }))
+      (hushed _ _ (record { state = rw e refl; arranged = arranged _ }))
 
   pub control1_rests : has RX_FLUSH v ≡ false → DoesQuietly (control1_written v (view d)) (done d 0)
   unfolding control1_written
-  control1_rests h = rw h (hushed _ d (itself d arranged))
+  control1_rests h = rw h (hushed _ d (itself d))
 
 -- ---- Control3
 
@@ -186,32 +190,32 @@ module _ (d : Device) (v : ℕ) (before : List ℕ) where
       rw h
       (sending _ c (and_then _ b (and_then _ a x (hides fail_bits) b y) (raises_a I_HARDSENT) c z) before n after hard_reset_frame sent)
 
-  pub control3_rests : has SEND_HARD_RESET v ≡ false → Arranged d → Does (control3_written v (view d)) before (done d 0) before
+  pub control3_rests : has SEND_HARD_RESET v ≡ false → Does (control3_written v (view d)) before (done d 0) before
   unfolding control3_written
-  control3_rests h arranged = rw h (silently _ d (itself d arranged) before)
+  control3_rests h = rw h (silently _ d (itself d) before)
 
 -- ---- Reset
 
-pub pd_resets : (d a : Device) → Becomes (over (view d)) a → (f : Fifo) → Sound f × (held f ≡ []) → (x : Status) → status_of x ≡ cleared
-    → Becomes (pd_reset (view d)) (record { cells = a.cells; tx = a.tx; rx = f; status = x; ints = a.ints; request = a.request; pins = a.pins })
+pub pd_resets : (d a : Device) (p : length a.cells ≡ 15) → Becomes (over (view d)) a → (f : Fifo) → held f ≡ [] → (x : Status) → status_of x ≡ cleared
+    → Becomes (pd_reset (view d)) (record { cells = a.cells; tx = a.tx; rx = f; status = x; ints = a.ints; request = a.request; pins = a.pins; registers = p })
 unfolding pd_reset
-pd_resets d a h f empty x e =
+pd_resets d a p h f empty x e =
     record {
       state =
-          ap (λ (l : List ℕ). with_rx l (with_status (status_of x) (view a))) empty.1
+          ap (λ (l : List ℕ). with_rx l (with_status (status_of x) (view a))) empty
           ∙ ap₂ (λ (s : State) (y : machine.Status). with_rx [] (with_status y s)) h.state e;
-      arranged = record { cells = h.arranged.cells; tx = h.arranged.tx; rx = empty.0 };
+      arranged = arranged _;
     }
 
 -- a device as after power-up, with the voltages of another
-pub restores : (d a : Device) → PoweredUp a
+pub restores : (d a : Device) (p : length a.cells ≡ 15) → PoweredUp a
     → Becomes (restored (view d))
-    (record { cells = a.cells; tx = a.tx; rx = a.rx; status = a.status; ints = a.ints; request = a.request; pins = d.pins })
+    (record { cells = a.cells; tx = a.tx; rx = a.rx; status = a.status; ints = a.ints; request = a.request; pins = d.pins; registers = p })
 unfolding restored
-restores d a p =
+restores d a p up =
     record {
-      state = ap (with_pins (pins_of d.pins)) p.new;
-      arranged = let g = p.asks.arranged in record { cells = g.cells; tx = g.tx; rx = g.rx };
+      state = ap (with_pins (pins_of d.pins)) up.new;
+      arranged = arranged _;
     }
 
 module _ (d : Device) (v : ℕ) where
@@ -224,36 +228,33 @@ module _ (d : Device) (v : ℕ) where
     unfolding reset_written
     reset_clears k t x = rw (h, k) (hushed _ t x)
 
-    pub reset_rests : has PD_RESET v ≡ false → Arranged d → DoesQuietly (reset_written v (view d)) (done d 0)
+    pub reset_rests : has PD_RESET v ≡ false → DoesQuietly (reset_written v (view d)) (done d 0)
     unfolding reset_written
-    reset_rests k arranged = rw (h, k) (hushed _ d (itself d arranged))
+    reset_rests k = rw (h, k) (hushed _ d (itself d))
 
 -- ---- a register is stored, and then commands
 
-abbrev storing : Device → ℕ → ℕ → Device
-storing d i x = record { cells = set d.cells i x; tx = d.tx; rx = d.rx; status = d.status; ints = d.ints; request = d.request; pins = d.pins }
-
-pub stored_arranged : (d : Device) → Arranged d → (i x : ℕ) → Arranged (storing d i x)
-stored_arranged d arranged i x = record { cells = simp length-set arranged.cells; tx = arranged.tx; rx = arranged.rx }
+abbrev storing : (d : Device) (i x : ℕ) → length (set d.cells i x) ≡ 15 → Device
+storing d i x p = record { cells = set d.cells i x; tx = d.tx; rx = d.rx; status = d.status; ints = d.ints; request = d.request; pins = d.pins; registers = p }
 
 -- the bits that a register stores, by the code's table
-stored_is : (d : Device) (a v m : ℕ) → m ≡ get_or stored_bits (a - 2) 0
-    → with_cells (stored a v d.cells) (view d) ≡ view (storing d (a - 2) (bit_and v m))
+stored_is : (d : Device) (a v m : ℕ) (p : length (set d.cells (a - 2) (bit_and v m)) ≡ 15) → m ≡ get_or stored_bits (a - 2) 0
+    → with_cells (stored a v d.cells) (view d) ≡ view (storing d (a - 2) (bit_and v m) p)
 unfolding stored
-stored_is d a v m e = rw e refl
+stored_is d a v m p e = rw e refl
 
 -- an effect of a write, on the device with its register stored
 module _ (d : Device) (a v : ℕ) (before : List ℕ) (r : Outcome) (after : List ℕ) where
   pub written_port : a ≡ fifos → Does (port_written v (view d)) before r after → Does (written a v (view d)) before r after
   written_port e x = rw (e, port_written_lem v (view d)) x
 
-  module _ (m : ℕ) (masked : m ≡ get_or stored_bits (a - 2) 0) where
+  module _ (m : ℕ) (p : length (set d.cells (a - 2) (bit_and v m)) ≡ 15) (masked : m ≡ get_or stored_bits (a - 2) 0) where
     abbrev then : Device
-    then = storing d (a - 2) (bit_and v m)
+    then = storing d (a - 2) (bit_and v m) p
 
     pub written_by : (f : State → Effect) → written a v (view d) ≡ f (with_cells (stored a v d.cells) (view d))
         → Does (f (view then)) before r after → Does (written a v (view d)) before r after
-    written_by f e x = rw (e, stored_is d a v m masked) x
+    written_by f e x = rw (e, stored_is d a v m p masked) x
 
 module _ (a v : ℕ) (s : State) where
   pub is_control0 : a ≡ control0 → written a v s ≡ control0_written v (with_cells (stored a v s.cells) s)
@@ -275,16 +276,16 @@ module _ (a v : ℕ) (s : State) where
   is_plain h p q r t = rw (ne_eqb _ _ h, ne_eqb _ _ p, ne_eqb _ _ q, ne_eqb _ _ r, ne_eqb _ _ t) refl
 
 -- what it changes of what is shown is reported
-module _ (d : Device) (a v : ℕ) (m : ℕ) (masked : m ≡ get_or stored_bits (a - 2) 0) where
+module _ (d : Device) (a v : ℕ) (m : ℕ) (p : length (set d.cells (a - 2) (bit_and v m)) ≡ 15) (masked : m ≡ get_or stored_bits (a - 2) 0) where
   abbrev plain : Device
-  plain = storing d (a - 2) (bit_and v m)
+  plain = storing d (a - 2) (bit_and v m) p
 
   pub written_plain : (a ≡ fifos → ⊥) → (a ≡ control0 → ⊥) → (a ≡ control1 → ⊥) → (a ≡ control3 → ⊥) → (a ≡ reset → ⊥)
       → (was : Readings) → shown_as was ≡ readings (view d) → (t : Device)
       → Becomes (raises (changes (shown_as was) (readings (view plain))) (view plain)) t → (before : List ℕ)
       → Does (written a v (view d)) before (done t 0) before
-  written_plain h p q r s was e t x before =
-      written_by d a v before (done t 0) before m masked (λ (u : State). silent (reports (view d) u)) (is_plain a v (view d) h p q r s)
+  written_plain h o q r s was e t x before =
+      written_by d a v before (done t 0) before m p masked (λ (u : State). silent (reports (view d) u)) (is_plain a v (view d) h o q r s)
       (silently _ t
       (record {
         state = x.state ∙ ap (λ (y : comparators.Readings). raises (changes y (readings (view plain))) (view plain)) e;
@@ -295,20 +296,18 @@ module _ (d : Device) (a v : ℕ) (m : ℕ) (masked : m ≡ get_or stored_bits (
 -- ---- the whole
 
 module _ (d : Device) (asks : Asks d) (before : List ℕ) (a v : ℕ) where
-  pub write_small : length before < frame_room → Serves (write (length before) a v) d before (record { device = d; reply = No 12; count = 0 }) before
+  pub write_small : length before < frame_room → Serves (write (length before) a v) d before (record { device = d; reply = Err SmallBuffer; count = 0 }) before
   write_small h =
-      serves_no (write (length before) a v) d before asks 12
+      serves_no (write (length before) a v) d before asks SmallBuffer
       (write_checks (view d) (length before) a v ∙ simp (lt-ltb (length before) frame_room h))
 
-  module _ (room : frame_room ≤ length before) where
-    pub write_refused : (n : ℕ) → (n ≡ 0 → ⊥) → Refuses (view d) a v n
-        → Serves (write (length before) a v) d before (record { device = d; reply = No n; count = 0 }) before
-    write_refused zero h x = absurd (h refl)
-    write_refused (suc n) h x = serves_no (write (length before) a v) d before asks (suc n) (x.is (length before) room)
+  module _ (frame : List ℕ) (first : IsFirstChunk before frame frame_room) where
+    pub write_refused : (n : No) → Refuses (view d) a v (Err n)
+        → Serves (write (length before) a v) d before (record { device = d; reply = Err n; count = 0 }) (frame ++ drop frame_room before)
+    write_refused n x = serves_no_in (write (length before) a v) d before asks frame first n (x.is (length before) first.enough)
 
-    pub write_taken_lem : Refuses (view d) a v 0 → a < 256 → v < 256 → (r : Outcome) (after : List ℕ)
-        → Does (written a v (view d)) before r after → Serves (write (length before) a v) d before r after
+    pub write_taken_lem : Refuses (view d) a v (Ok tt) → a < 256 → v < 256 → (r : Outcome) (after : List ℕ)
+        → Does (written a v (view d)) frame r after → Serves (write (length before) a v) d before r (after ++ drop frame_room before)
     unfolding accepted reply_to
     write_taken_lem x p q r after y =
-        serves_yes (write (length before) a v) d before asks (x.is (length before) room) (p, q) r after y.arranged
-        y.state (ap replied y.reply) y.sends.count y.sends.lent
+        serves_in (write (length before) a v) d before asks frame first (x.is (length before) first.enough) (p, q) refl r after y

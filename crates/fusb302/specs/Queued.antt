@@ -1,14 +1,16 @@
 -- The transmit queue as it lies in memory, and the octets that it holds.
 -- Assumes nothing.
-use Rattle.std.specs.Prelude.{◌≡◌, cond, List, map, ℕ, ◌≤◌, ltb, length, take, drop}
+use Rattle.std.specs.Prelude as rust
+use Rattle.std.specs.Prelude.{Some, None, ◌≡◌, cond, List, map, ℕ, ◌≤◌, ltb, length, take, drop}
 use Rattle.std.proofs.Math.Option.{Option, none, some}
+use Rattle.line.specs.declared.kind.SopKind.{SopKind}
+use Rattle.line.specs.Numbered.{sop_number}
 use Rattle.line.specs.Kind.{ordered_sets, sop_kinds, kind_from}
 use Rattle.line.specs.Frame.{Frame}
 use Rattle.machine.specs.Status.{tx_room}
 use Rattle.machine.specs.Queue.{set_symbol, to_come}
 use Rattle.fusb302.specs.declared.queue.Queue.{Queue}
 use Rattle.fusb302.specs.declared.queue.Message.{Message}
-use Rattle.fusb302.specs.declared.queue.Message.TheVariants.{Spelt, Nothing}
 
 abbrev pub queued : Queue → List ℕ
 queued q = take q.len q.octets
@@ -20,17 +22,18 @@ pub record Kept (q : Queue) : Type 0 where
   pub left : q.left ≡ to_come 0 (queued q)
 
 -- the frame that an answer means of a queue's octets
-abbrev pub spelt_as : Message → List ℕ → Option Frame
-spelt_as (Spelt k n) l = some (record { kind = k; octets = take n (drop 5 l) })
-spelt_as Nothing l = none
+abbrev pub spelt_as : rust.Option Message → List ℕ → Option Frame
+spelt_as (Some m) l = some (record { kind = sop_number m.kind; octets = take m.count (drop 5 l) })
+spelt_as None l = none
 
--- a kind below 5 is an SOP kind; 5 stands for none
-abbrev pub sop_kind : ℕ → Option ℕ
-sop_kind k = cond (ltb k sop_kinds) (some k) none
+-- an SOP kind by its number, or none
+abbrev pub sop_kind : rust.Option SopKind → Option ℕ
+sop_kind (Some s) = some (sop_number s)
+sop_kind None = none
 
 abbrev pub sop_only : Option ℕ → Option ℕ
 sop_only none = none
-sop_only (some k) = sop_kind k
+sop_only (some k) = cond (ltb k sop_kinds) (some k) none
 
 -- the SOP kind whose set these four tokens are
 abbrev pub kind_of : List ℕ → Option ℕ

@@ -1,6 +1,7 @@
 -- What every event method promises: the machine's step, in device, reply, count and lent symbols.
 -- Assumes nothing.
-use Rattle.std.specs.Prelude.{◌≡◌, Bool, cond, List, [], ◌∷◌, ◌++◌, ℕ, zero, suc, ◌≤◌, length, drop}
+use Rattle.std.specs.Prelude.{◌≡◌, Bool, cond, List, [], ◌∷◌, ◌++◌, ℕ, ◌≤◌, length, drop, ⊤, Some, None, Result, Ok, Err}
+use Rattle.std.specs.Prelude as std
 use Rattle.std.proofs.Math.Option.{Option, none, some}
 use Rattle.line.specs.Frame.{Frame, joined}
 use Rattle.line.specs.Write.{frame_room}
@@ -12,16 +13,21 @@ use Rattle.machine.specs.State.{State}
 use Rattle.machine.specs.Refusals.{refusal}
 use Rattle.machine.specs.Step.{step}
 use Rattle.fusb302.specs.declared.device.Device.{Device}
-use Rattle.fusb302.specs.declared.device.Reply.{Reply}
-use Rattle.fusb302.specs.declared.device.Reply.TheVariants.{Done, Value, No}
 use Rattle.fusb302.specs.declared.device.Outcome.{Outcome}
+use Rattle.fusb302.specs.declared.refusals.No.{No}
+use Rattle.fusb302.specs.declared.refusals.No.TheVariants.{QueueFull, NotAMessage, DriverOff}
+use Rattle.fusb302.specs.Refusals.{number_of}
 use Rattle.fusb302.specs.View.{view, Arranged, Asks}
+
+-- a `Reply`, since antt has no name for an alias
+abbrev pub Reply : Type 0
+Reply = Result (std.Option ℕ) No
 
 -- what a reply means, in 01's numbers and values
 abbrev pub replied : Reply → events.Reply
-replied Done = events.done
-replied (Value v) = events.value v
-replied (No n) = events.no n
+replied (Ok None) = events.done
+replied (Ok (Some v)) = events.value v
+replied (Err n) = events.no (number_of n)
 
 -- symbols at the beginning of what was lent, and then what stood there
 abbrev pub overlaid : List ℕ → List ℕ → List ℕ
@@ -41,14 +47,14 @@ pub record Becomes (s : State) (d : Device) : Type 0 where
 pub record Does (x : Effect) (before : List ℕ) (r : Outcome) (after : List ℕ) : Type 0 where
   pub state : view r.device ≡ x.state
   pub arranged : Arranged r.device
-  pub reply : r.reply ≡ Done
+  pub reply : r.reply ≡ Ok None
   pub sends : Sends x.frames before r.count after
 
 -- a part that is lent no symbols, since it sends nothing
 pub record DoesQuietly (x : Effect) (r : Outcome) : Type 0 where
   pub state : view r.device ≡ x.state
   pub arranged : Arranged r.device
-  pub reply : r.reply ≡ Done
+  pub reply : r.reply ≡ Ok None
   pub count : r.count ≡ 0
   pub quiet : x.frames ≡ []
 
@@ -63,7 +69,7 @@ pub record Serves (e : Event) (d : Device) (before : List ℕ) (r : Outcome) (af
   pub reply : replied r.reply ≡ (step (view d) e).reply
   pub count : r.count ≡ length (joined (step (view d) e).frames)
   pub lent : after ≡ overlaid (joined (step (view d) e).frames) before
-  pub refused : (n : ℕ) → r.reply ≡ No n → r.device ≡ d
+  pub refused : (n : No) → r.reply ≡ Err n → r.device ≡ d
 
 -- the same of a read of 43, room for a frame being lent
 pub record PortRead (d : Device) (r : Outcome) : Type 0 where
@@ -71,15 +77,23 @@ pub record PortRead (d : Device) (r : Outcome) : Type 0 where
 
 -- ---- what a write is refused with
 
--- a number of no, and 0 for none
-abbrev pub no_of : ℕ → Option ℕ
-no_of zero = none
-no_of (suc n) = some (suc n)
+-- the number of no, where it is refused
+abbrev pub no_of : Result ⊤ No → Option ℕ
+no_of (Ok u) = none
+no_of (Err n) = some (number_of n)
 
--- room for a frame being lent, a write of v at a is refused with n
-pub record Refuses (s : State) (a v n : ℕ) : Type 0 where
-  pub is : (room : ℕ) → frame_room ≤ room → refusal s (events.write room a v) ≡ no_of n
+-- room for a frame being lent, whether a write of v at a is refused, and for what
+pub record Refuses (s : State) (a v : ℕ) (r : Result ⊤ No) : Type 0 where
+  pub is : (room : ℕ) → frame_room ≤ room → refusal s (events.write room a v) ≡ no_of r
 
--- a start's: 4 where the queue is no message, 7 where the driver is off
-abbrev pub start_no : Bool → Bool → ℕ
-start_no message on = cond message (cond on 0 7) 4
+-- a frame's: refused where the driver is off
+abbrev pub sending_no : Bool → Result ⊤ No
+sending_no on = cond on (Ok tt) (Err DriverOff)
+
+-- a start's: also where the queue is no message
+abbrev pub start_no : Bool → Bool → Result ⊤ No
+start_no message on = cond message (sending_no on) (Err NotAMessage)
+
+-- an octet's that is to be stored: refused where the queue is full
+abbrev pub storing_no : Bool → Result ⊤ No
+storing_no full = cond full (Err QueueFull) (Ok tt)

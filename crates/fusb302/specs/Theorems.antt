@@ -1,18 +1,17 @@
 -- What holds of the promises themselves; proofs/Outcomes.antt has the proof of each statement.
 -- Assumes nothing.
-use Rattle.std.specs.Prelude.{◌≡◌, Bool, List, ◌↔◌, ℕ, ◌<◌, ◌≤◌, length}
+use Rattle.std.specs.Prelude.{◌≡◌, Bool, List, ◌↔◌, ℕ, ◌<◌, ◌≤◌, length, Err}
 use Rattle.line.specs.Frame.{Frame}
 use Rattle.line.specs.Write.{frame_room}
 use Rattle.machine.specs.Events.{Event, packet}
 use Rattle.machine.specs.Theorems.{GoodCrcFor}
 use Rattle.fusb302.specs.declared.device.Device.{Device}
-use Rattle.fusb302.specs.declared.device.Reply.{Reply}
-use Rattle.fusb302.specs.declared.device.Reply.TheVariants.{No}
 use Rattle.fusb302.specs.declared.device.Outcome.{Outcome}
+use Rattle.fusb302.specs.declared.refusals.No.{No}
 use Rattle.fusb302.specs.View.{view, Asks, Level, PoweredUp}
 use Rattle.fusb302.specs.declared.why.Why.{Why}
 use Rattle.fusb302.specs.declared.why.Why.TheVariants.{Refused, Leaves}
-use Rattle.fusb302.specs.Serves.{replied, Sends, Serves}
+use Rattle.fusb302.specs.Serves.{Reply, replied, Sends, Serves}
 use Rattle.fusb302.specs.Why.{Explains}
 
 -- each reply means one thing
@@ -31,7 +30,7 @@ abbrev pub OneOutcome : Type 0
 OneOutcome =
     (e : Event) (d : Device) (before : List ℕ) (r s : Outcome) (a b : List ℕ)
     → Serves e d before r a → Serves e d before s b
-    → Alike r s a b × ((n : ℕ) → r.reply ≡ No n → r.device ≡ s.device)
+    → Alike r s a b × ((n : No) → r.reply ≡ Err n → r.device ≡ s.device)
 
 -- the view is enough: devices that stand for one state answer any event alike, stand for one state again and may be asked again,
 -- have one level of INT_N, and answer alike why there was no GoodCRC
@@ -66,7 +65,7 @@ pub record RepliesWith (k : ℕ) (m before : List ℕ) (n : ℕ) (after : List �
 pub record TrueOfEvent (k : ℕ) (m : List ℕ) (w : Why) (before : List ℕ) (r : Outcome) (after : List ℕ) : Type 0 where
   pub leaves : (w ≡ Leaves) ↔ (0 < r.count)
   pub reply : w ≡ Leaves → RepliesWith k m before r.count after
-  pub refused : (n : ℕ) → (w ≡ Refused n) ↔ (r.reply ≡ No n)
+  pub refused : (n : No) → (w ≡ Refused n) ↔ (r.reply ≡ Err n)
 
 abbrev pub WhyTrueOfEvent : Type 0
 WhyTrueOfEvent =

@@ -1,8 +1,10 @@
 -- The state of the machine that a device stands for, and which devices events lead to.
 -- Assumes nothing.
-use Rattle.std.specs.Prelude.{◌≡◌, Bool, not, cond, ℕ, ltb, length}
+use Rattle.std.specs.Prelude as rust
+use Rattle.std.specs.Prelude.{Some, None, ◌≡◌, Bool, not, length}
 use Rattle.std.proofs.Math.Option.{Option, none, some}
-use Rattle.line.specs.Kind.{sop_kinds}
+use Rattle.line.specs.declared.kind.SopKind.{SopKind}
+use Rattle.line.specs.Numbered.{sop_number}
 use Rattle.machine.specs.State as machine
 use Rattle.machine.specs.State.{Phase, message, soft_reset, State, power_up}
 use Rattle.machine.specs.Status.{int_low}
@@ -15,11 +17,12 @@ use Rattle.fusb302.specs.Queued.{queued, Kept, sop_kind}
 use Rattle.fusb302.specs.Held.{held, Sound}
 use Rattle.fusb302.specs.Sensed.{pins_of}
 
--- what a request sends, by its number: a Soft_Reset on that SOP kind, or where it is none its message
-abbrev pub phase_of : ℕ → Phase
-phase_of k = cond (ltb k sop_kinds) (soft_reset k) message
+-- what a request sends: a Soft_Reset on that SOP kind, or where it is none its message
+abbrev pub phase_of : rust.Option SopKind → Phase
+phase_of (Some s) = soft_reset (sop_number s)
+phase_of None = message
 
--- what a request asks for, if it is open
+-- what a request asks for
 abbrev pub asked : Request → machine.Request
 asked q =
     record {
@@ -32,8 +35,9 @@ asked q =
       waited = q.waited;
     }
 
-abbrev pub request_of : Request → Option machine.Request
-request_of q = cond q.active (some (asked q)) none
+abbrev pub request_of : rust.Option Request → Option machine.Request
+request_of (Some q) = some (asked q)
+request_of None = none
 
 abbrev pub status_of : Status → machine.Status
 status_of x = record { status0a = x.status0a; crc_chk = x.crc_chk; kind = sop_kind x.kind }

@@ -6,11 +6,12 @@ use Rattle.machine.specs.Why.{Reason, refused, kind_off, crc_wrong, no_room, is_
 use Rattle.fusb302.specs.declared.device.Device.{Device}
 use Rattle.fusb302.specs.declared.why.Why.{Why}
 use Rattle.fusb302.specs.declared.why.Why.TheVariants.{Refused, KindOff, CrcWrong, NoRoom, IsGoodCrc, AutoCrcOff, AutoPreOn, DriverOff, Leaves}
+use Rattle.fusb302.specs.Refusals.{number_of}
 use Rattle.fusb302.specs.View.{view}
 
 -- the reason that an answer names, or none where a reply leaves
 abbrev pub reason_of : Why → Option Reason
-reason_of (Refused n) = some (refused n)
+reason_of (Refused n) = some (refused (number_of n))
 reason_of KindOff = some kind_off
 reason_of CrcWrong = some crc_wrong
 reason_of NoRoom = some no_room

@@ -153,6 +153,8 @@ pub(crate) enum Place {
     Nowhere,
 }
 
+// The range of what is shown, and each other address by itself (01, 'How each place should look').
+#[tactic(auto, unfolding(crate::specs::Places::Placed, machine::specs::Registers::exists, machine::specs::Registers::is_stored, machine::specs::Registers::read_only))]
 pub(crate) fn place_of(address: u8) -> Place
     ensures { Placed address result }
 {
@@ -172,38 +174,27 @@ pub(crate) fn place_of(address: u8) -> Place
         | 0x0D
         | 0x0E
         | 0x0F
-        | 0x10 => { Place::Stored }
+        | 0x10 => Place::Stored,
         0x3C..=0x42 => Place::Shown,
         0x43 => Place::Port,
         _ => Place::Nowhere,
     }
 }
 
+const STORED_BITS: [u8; 15] = [
+    0xFF, 0xF7, 0x7F, 0xFF, 0x2E, 0x73, 0xEF, 0x3F, 0xFF, 0x0F, 0x00, 0x0F, 0xFF, 0x01, 0x01,
+];
+
 // The bits of a register that are stored.
 pub(crate) fn stored_bits(address: u8) -> u8
     requires { (2 ≤ address) × (address ≤ 0x10) }
     ensures { result ≡ get_or stored_bits (address - 2) 0 }
 {
-    match address {
-        0x02 => 0xFF,
-        0x03 => 0xF7,
-        0x04 => 0x7F,
-        0x05 => 0xFF,
-        0x06 => 0x2E,
-        0x07 => 0x73,
-        0x08 => 0xEF,
-        0x09 => 0x3F,
-        0x0A => 0xFF,
-        0x0B => 0x0F,
-        0x0C => 0x00,
-        0x0D => 0x0F,
-        0x0E => 0xFF,
-        0x0F => 0x01,
-        _ => 0x01,
-    }
+    STORED_BITS[(address - 2) as usize]
 }
 
 // Whether some bit of a mask is 1.
+#[tactic(auto, unfolding(machine::specs::Registers::has))]
 pub(crate) fn has(mask: u8, x: u8) -> bool
     ensures { result ≡ has mask x }
 {
@@ -218,19 +209,21 @@ pub(crate) fn flag(mask: u8, on: bool) -> u8
 }
 
 // Exactly one of Switches1's bits 1:0.
+#[tactic(auto, unfolding(machine::specs::Requests::driver_on))]
 pub(crate) fn driver_on(switches1: u8) -> bool
     ensures { result ≡ driver_on switches1 }
 {
-    let way = switches1 & TXCC;
-    way == 1 || way == 2
+    matches!(switches1 & TXCC, 1 | 2)
 }
 
 // How often a message is sent again, by Control3.
+#[tactic(auto, unfolding(machine::specs::Requests::retries_of))]
 pub(crate) fn retries_of(control3: u8) -> u8
     ensures { result ≡ retries_of control3 }
 {
     if has(AUTO_RETRY, control3) {
-        return (control3 >> 1) & 3;
+        (control3 >> 1) & 3
+    } else {
+        0
     }
-    0
 }

@@ -1,27 +1,25 @@
 // The device: registers, both FIFOs, interrupts, the request that is open, and the voltages on its pins.
-ghost use Rattle.std.specs.Prelude.{◌≡◌};
+ghost use Rattle.std.specs.Prelude.{◌≡◌, Some, None, Ok, Err, length};
+ghost use Rattle.std.proofs.Math.Option.{some};
 ghost use Rattle.machine.specs.Status.{cleared_at};
 ghost use Rattle.machine.specs.State.{cleared, with_request, shows, hides, raises_a, raises_b, raises};
 ghost use Rattle.machine.specs.Requests.{fail_bits, over, goes_on};
-ghost use Rattle.fusb302.specs.View.{phase_of, asked, request_of, status_of, view, ints_of, Arranged, PoweredUp};
-ghost use Rattle.fusb302.specs.Serves.{Becomes};
 
 use crate::bits::{RETRYFAIL, SOFTFAIL};
 use crate::fifo::Fifo;
 use crate::pins::{Millivolts, Pins};
 use crate::queue::Queue;
+use crate::refusals::No;
+use line::kind::SopKind;
 
 // The longest frame (01, 'Numbers of no', 12).
 pub(crate) const FRAME_ROOM: usize = 73;
-
-// What stands for no kind, in the status and in a request.
-pub(crate) const NO_KIND: u8 = 5;
 
 #[derive(Clone, Copy)]
 pub struct Status {
     pub(crate) status0a: u8,
     pub(crate) crc_chk: bool,
-    pub(crate) kind: u8,
+    pub(crate) kind: Option<SopKind>,
 }
 
 #[derive(Clone, Copy)]
@@ -31,19 +29,19 @@ pub struct Ints {
     pub(crate) main: u8,
 }
 
-// The open request, if `active`: what its start latched, the kind that its Soft_Reset is in flight on, if it is, and how far it has come.
+// An open request: what its start latched, the kind that its Soft_Reset is in flight on, if it is, and how far it has come.
 #[derive(Clone, Copy)]
 pub struct Request {
-    pub(crate) active: bool,
     pub(crate) switches1: u8,
     pub(crate) retries: u8,
     pub(crate) soft: bool,
     pub(crate) hard: bool,
-    pub(crate) resetting: u8,
+    pub(crate) resetting: Option<SopKind>,
     pub(crate) sent: u8,
     pub(crate) waited: u16,
 }
 
+// `Good` is no ghost field: between two steps of one event it need not hold, so that methods ask for `Asks`.
 #[derive(Clone, Copy)]
 pub struct Device {
     pub(crate) cells: [u8; Device::REGISTERS],
@@ -51,16 +49,13 @@ pub struct Device {
     pub(crate) rx: Fifo,
     pub(crate) status: Status,
     pub(crate) ints: Ints,
-    pub(crate) request: Request,
+    pub(crate) request: Option<Request>,
     pub(crate) pins: Pins,
+    ghost registers: { length cells ≡ 15 },
 }
 
-#[derive(Clone, Copy)]
-pub enum Reply {
-    Done,
-    Value(u8),
-    No(u8),
-}
+// Nothing or the octet that was read; or why the event is refused.
+pub type Reply = Result<Option<u8>, No>;
 
 // What an event gives back: the device, its reply, and how many of the lent symbols it sent.
 #[derive(Clone, Copy)]
@@ -71,18 +66,22 @@ pub struct Outcome {
 }
 
 impl Status {
+    ghost use Rattle.fusb302.specs.View.{status_of};
+
     pub(crate) fn cleared() -> Status
         ensures { status_of result ≡ cleared }
     {
         Status {
             status0a: 0,
             crc_chk: false,
-            kind: NO_KIND,
+            kind: None,
         }
     }
 }
 
 impl Ints {
+    ghost use Rattle.fusb302.specs.View.{ints_of};
+
     pub(crate) fn cleared(mut self, address: u8) -> Ints
         ensures { ints_of result ≡ cleared_at address (ints_of self) }
     {
@@ -97,9 +96,11 @@ impl Ints {
 }
 
 impl Request {
+    ghost use Rattle.fusb302.specs.View.{phase_of, asked};
+
     // The same request in another phase, with another count of retries and wait.
-    pub(crate) fn goes_on(mut self, resetting: u8, sent: u8, waited: u16) -> Request
-        ensures { (result.active ≡ self.active) × (asked result ≡ goes_on (phase_of resetting) sent waited (asked self)) }
+    pub(crate) fn goes_on(mut self, resetting: Option<SopKind>, sent: u8, waited: u16) -> Request
+        ensures { asked result ≡ goes_on (phase_of resetting) sent waited (asked self) }
     {
         self.resetting = resetting;
         self.sent = sent;
@@ -109,6 +110,9 @@ impl Request {
 }
 
 impl Device {
+    ghost use Rattle.fusb302.specs.View.{asked, view, PoweredUp};
+    ghost use Rattle.fusb302.specs.Serves.{Becomes};
+
     // 02 to 10
     const REGISTERS: usize = 15;
 
@@ -130,16 +134,7 @@ impl Device {
                 b: 0,
                 main: 0,
             },
-            request: Request {
-                active: false,
-                switches1: 0,
-                retries: 0,
-                soft: false,
-                hard: false,
-                resetting: NO_KIND,
-                sent: 0,
-                waited: 0,
-            },
+            request: None,
             pins: Pins {
                 cc1: Millivolts(0),
                 cc2: Millivolts(0),
@@ -150,59 +145,56 @@ impl Device {
 
     // ---- outcomes
 
-    pub(crate) fn refuse(self, number: u8) -> Outcome
-        ensures { result ≡ record { device = self; reply = Reply.No number; count = 0 } }
+    pub(crate) fn refuse(self, no: No) -> Outcome
+        ensures { result ≡ record { device = self; reply = Err no; count = 0 } }
     {
         Outcome {
             device: self,
-            reply: Reply::No(number),
+            reply: Err(no),
             count: 0,
         }
     }
 
     pub(crate) fn give(self, octet: u8) -> Outcome
-        ensures { result ≡ record { device = self; reply = Reply.Value octet; count = 0 } }
+        ensures { result ≡ record { device = self; reply = Ok (Some octet); count = 0 } }
     {
         Outcome {
             device: self,
-            reply: Reply::Value(octet),
+            reply: Ok(Some(octet)),
             count: 0,
         }
     }
 
     pub(crate) fn done(self, count: usize) -> Outcome
-        ensures { result ≡ record { device = self; reply = Reply.Done; count = count } }
+        ensures { result ≡ record { device = self; reply = Ok None; count = count } }
     {
         Outcome {
             device: self,
-            reply: Reply::Done,
+            reply: Ok(None),
             count,
         }
     }
 
-    // ---- a part replaced, as the machine's State replaces it
+    // ---- a part replaced, as the machine's State replaces it; three interrupt registers have one each, as there
 
     // A request, or none, is over and the queue empty.
     pub(crate) fn over(mut self) -> Device
-        requires { Arranged self }
         ensures { Becomes (over (view self)) result }
     {
         self.tx = Queue::empty();
-        self.request.active = false;
+        self.request = None;
         self
     }
 
     pub(crate) fn requests(mut self, request: Request) -> Device
-        requires { Arranged self }
-        ensures { Becomes (with_request (request_of request) (view self)) result }
+        ensures { Becomes (with_request (some (asked request)) (view self)) result }
     {
-        self.request = request;
+        self.request = Some(request);
         self
     }
 
     // Bits set in 3C.
     pub(crate) fn shows(mut self, bits: u8) -> Device
-        requires { Arranged self }
         ensures { Becomes (shows bits (view self)) result }
     {
         let shown = self.status.status0a | bits;
@@ -212,7 +204,6 @@ impl Device {
 
     // SOFTFAIL and RETRYFAIL cleared.
     pub(crate) fn hides_fails(mut self) -> Device
-        requires { Arranged self }
         ensures { Becomes (hides fail_bits (view self)) result }
     {
         let hidden = self.status.status0a & !(SOFTFAIL | RETRYFAIL);
@@ -222,7 +213,6 @@ impl Device {
 
     // Bits set in 3E, whatever masks say.
     pub(crate) fn raises_a(mut self, bits: u8) -> Device
-        requires { Arranged self }
         ensures { Becomes (raises_a bits (view self)) result }
     {
         let raised = self.ints.a | bits;
@@ -232,7 +222,6 @@ impl Device {
 
     // Bits set in 3F.
     pub(crate) fn raises_b(mut self, bits: u8) -> Device
-        requires { Arranged self }
         ensures { Becomes (raises_b bits (view self)) result }
     {
         let raised = self.ints.b | bits;
@@ -242,7 +231,6 @@ impl Device {
 
     // Bits set in 42.
     pub(crate) fn raises(mut self, bits: u8) -> Device
-        requires { Arranged self }
         ensures { Becomes (raises bits (view self)) result }
     {
         let raised = self.ints.main | bits;

@@ -1,18 +1,23 @@
 // The receive FIFO: packets, each behind its token, read octet by octet (01, 'Packets heard').
-ghost use Rattle.std.specs.Prelude.{◌≡◌, [], ◌∷◌, ◌++◌, suc, ◌+◌, ◌≤◌, ◌<◌, length, drop, get_or};
-ghost use Rattle.fusb302.specs.Held.{held, Sound};
+ghost use Rattle.std.specs.Prelude.{◌≡◌, ◌≤◌, length};
 
+// An array and a length, since a device is Copy and asks for no heap: the kit's ArrayVec is not Copy.
 #[derive(Clone, Copy)]
 pub struct Fifo {
     pub(crate) octets: [u8; Fifo::CAPACITY],
     pub(crate) len: usize,
+    ghost size: { length octets ≡ 80 },
+    ghost room: { len ≤ 80 },
 }
 
 impl Fifo {
+    ghost use Rattle.std.specs.Prelude.{[], ◌∷◌, ◌++◌, suc, ◌+◌, ◌<◌, drop, get_or};
+    ghost use Rattle.fusb302.specs.Held.{held};
+
     pub(crate) const CAPACITY: usize = 80;
 
     pub(crate) fn empty() -> Fifo
-        ensures { Sound result × (held result ≡ []) }
+        ensures { held result ≡ [] }
     {
         Fifo {
             octets: [0; Fifo::CAPACITY],
@@ -22,23 +27,20 @@ impl Fifo {
 
     // A packet behind its token.
     pub(crate) fn store(mut self, token: u8, packet: &[u8]) -> Fifo
-        requires { Sound self × (self.len + suc (length packet.now) ≤ 80) }
-        ensures { Sound result × (held result ≡ held self ++ (token ∷ packet.now)) }
+        requires { self.len + suc (length packet.now) ≤ 80 }
+        ensures { held result ≡ held self ++ (token ∷ packet.now) }
     {
-        let at = self.len;
-        self.octets[at] = token;
-        let mut i = 0;
-        while i < packet.len() {
-            self.octets[at + 1 + i] = packet[i];
-            i += 1;
-        }
-        self.len = at + 1 + packet.len();
+        let start = self.len + 1;
+        let end = start + packet.len();
+        self.octets[self.len] = token;
+        self.octets[start..end].copy_from_slice(packet);
+        self.len = end;
         self
     }
 
     // The oldest octet.
     pub(crate) fn first(self) -> u8
-        requires { Sound self × (0 < self.len) }
+        requires { 0 < self.len }
         ensures { result ≡ get_or (held self) 0 0 }
     {
         self.octets[0]
@@ -46,17 +48,11 @@ impl Fifo {
 
     // All but the oldest octet.
     pub(crate) fn rest(mut self) -> Fifo
-        requires { Sound self × (0 < self.len) }
-        ensures { Sound result × (held result ≡ drop 1 (held self)) }
+        requires { 0 < self.len }
+        ensures { held result ≡ drop 1 (held self) }
     {
-        let last = self.len - 1;
-        let mut i = 0;
-        while i < last {
-            let octet = self.octets[i + 1];
-            self.octets[i] = octet;
-            i += 1;
-        }
-        self.len = last;
+        self.octets.rotate_left(1);
+        self.len -= 1;
         self
     }
 }

@@ -9,6 +9,7 @@ mod packets;
 pub mod pins;
 mod queue;
 mod reads;
+pub mod refusals;
 mod requests;
 mod send;
 pub mod why;
@@ -16,4 +17,5 @@ mod writes;
 
 pub use device::{Device, Outcome, Reply};
 pub use pins::Millivolts;
+pub use refusals::No;
 pub use why::Why;

@@ -1,13 +1,13 @@
 // The voltages on the pins, what the comparators show of them, and the event that gives them (02, A1).
-ghost use Rattle.std.specs.Prelude.{◌≡◌, not, ◌&&◌, ◌||◌, ◌≤◌, length};
+ghost use Rattle.std.specs.Prelude.{◌≡◌, not, ◌&&◌, ◌||◌, ◌+◌, ◌*◌, ◌≤◌, length};
 ghost use Rattle.std.specs.Int.Bits.{bit_and};
 ghost use Rattle.machine.specs.Registers.{has, MEAS_CC1, MEAS_CC2, MDAC};
 ghost use Rattle.machine.specs.State.{raises};
-ghost use Rattle.machine.specs.Pins.{above, levels, cc_reference, vbus_reference, measured, steps, bc_lvl_of, comp_of, readings};
-ghost use Rattle.machine.specs.Status.{differ, changes};
+ghost use Rattle.machine.specs.Pins.{above, levels, vbus_reference, measured, steps, bc_lvl_of, comp_of, readings};
+ghost use Rattle.machine.specs.Status.{changes};
 ghost use Rattle.machine.specs.Events.{sense};
 ghost use Rattle.fusb302.specs.Sensed.{pins_of, measured_as, shown_as};
-ghost use Rattle.fusb302.specs.View.{view, Arranged, Asks};
+ghost use Rattle.fusb302.specs.View.{view, Asks};
 ghost use Rattle.fusb302.specs.Serves.{Becomes, Serves};
 
 use crate::bits::{
@@ -15,9 +15,10 @@ use crate::bits::{
     SWITCHES0, flag, has,
 };
 use crate::device::{Device, FRAME_ROOM, Outcome};
+use crate::refusals::No;
 
 // A voltage, on a pin or as a threshold.
-#[derive(Clone, Copy)]
+#[derive(Clone, Copy, Debug, PartialEq, Eq, PartialOrd, Ord)]
 pub struct Millivolts(pub u16);
 
 // MDAC in Measure: how many steps the reference lies above its lowest, and no voltage.
@@ -30,13 +31,6 @@ pub struct Pins {
     pub(crate) cc1: Millivolts,
     pub(crate) cc2: Millivolts,
     pub(crate) vbus: Millivolts,
-}
-
-// The voltage of the one CC pin that is measured.
-#[derive(Clone, Copy)]
-pub(crate) enum Measured {
-    Pin(Millivolts),
-    Nothing,
 }
 
 // VBUSOK, COMP and BC_LVL.
@@ -56,12 +50,17 @@ const BC_LVL_3: Millivolts = Millivolts(1230);
 
 const VBUS_THRESHOLD: Millivolts = Millivolts(4000);
 
+// Data sheet 004, 'vMDACstepCC' and 'vMDACstepVBUS'.
+const MDAC_STEP_CC: Millivolts = Millivolts(42);
+
+const MDAC_STEP_VBUS: Millivolts = Millivolts(420);
+
 impl Millivolts {
     // Equal counts as above.
     fn above(self, threshold: Millivolts) -> bool
         ensures { result ≡ above threshold.0 self.0 }
     {
-        threshold.0 <= self.0
+        threshold <= self
     }
 }
 
@@ -72,38 +71,25 @@ impl MdacCode {
         MdacCode(measure & MDAC)
     }
 
-    // Data sheet 004, 'vMDACstepCC': the reference for a CC pin.
-    fn on_cc(self) -> Millivolts
-        ensures { result.0 ≡ cc_reference self.0 }
+    // The reference, in steps for a CC pin or for VBUS.
+    fn reference(self, step: Millivolts) -> Millivolts
+        requires { (self.0 ≤ 63) × (step.0 ≤ 420) }
+        ensures { result.0 ≡ step.0 * (self.0 + 1) }
     {
-        Millivolts(42 * (self.0 as u16 + 1))
-    }
-
-    // 'vMDACstepVBUS': the reference for VBUS.
-    fn on_vbus(self) -> Millivolts
-        requires { self.0 ≤ 63 }
-        ensures { result.0 ≡ vbus_reference self.0 }
-    {
-        Millivolts(420 * (self.0 as u16 + 1))
+        Millivolts(step.0 * (self.0 as u16 + 1))
     }
 }
 
-// Exactly one MEAS_CC.
-fn one_pin(switches0: u8, pins: Pins) -> Measured
+// The voltage of the CC pin that is measured, by exactly one MEAS_CC.
+#[tactic(auto, unfolding(machine::specs::Pins::one_pin))]
+fn one_pin(switches0: u8, pins: Pins) -> Option<Millivolts>
     ensures { measured_as result ≡ measured switches0 (pins_of pins) }
 {
-    if has(MEAS_CC1, switches0) {
-        if has(MEAS_CC2, switches0) {
-            return Measured::Nothing;
-        }
-        let cc1 = pins.cc1;
-        return Measured::Pin(cc1);
+    match (has(MEAS_CC1, switches0), has(MEAS_CC2, switches0)) {
+        (true, false) => Some(pins.cc1),
+        (false, true) => Some(pins.cc2),
+        _ => None,
     }
-    if has(MEAS_CC2, switches0) {
-        let cc2 = pins.cc2;
-        return Measured::Pin(cc2);
-    }
-    Measured::Nothing
 }
 
 // How many of BC_LVL's thresholds a voltage is above.
@@ -115,77 +101,51 @@ fn steps(voltage: Millivolts) -> u8
         + flag(1, voltage.above(BC_LVL_3))
 }
 
+#[tactic(auto, unfolding(machine::specs::Pins::bc_lvl_of))]
 fn bc_lvl(switches0: u8, power: u8, pins: Pins) -> u8
     ensures { (result ≡ bc_lvl_of switches0 power (pins_of pins)) × (result ≤ 3) }
 {
-    if has(PWR2, power) {
-        match one_pin(switches0, pins) {
-            Measured::Pin(voltage) => {
-                return steps(voltage);
-            }
-            Measured::Nothing => {
-                return 0;
-            }
-        }
+    if !has(PWR2, power) {
+        return 0;
     }
-    0
+    one_pin(switches0, pins).map_or(0, steps)
 }
 
 // COMP of VBUS, which both MEAS_CC must leave alone.
 fn vbus_comp(switches0: u8, measure: u8, vbus: Millivolts) -> bool
     ensures { result ≡ (not (has MEAS_CC1 switches0 || has MEAS_CC2 switches0) && above (vbus_reference (bit_and measure MDAC)) vbus.0) }
 {
-    if has(MEAS_CC1, switches0) {
-        return false;
-    }
-    if has(MEAS_CC2, switches0) {
-        return false;
-    }
-    vbus.above(MdacCode::of(measure).on_vbus())
+    !has(MEAS_CC1, switches0)
+        && !has(MEAS_CC2, switches0)
+        && vbus.above(MdacCode::of(measure).reference(MDAC_STEP_VBUS))
 }
 
+#[tactic(auto, unfolding(machine::specs::Pins::comp_of))]
 fn comp(switches0: u8, measure: u8, power: u8, pins: Pins) -> bool
     ensures { result ≡ comp_of switches0 measure power (pins_of pins) }
 {
-    if has(PWR2, power) {
-        if has(MEAS_VBUS, measure) {
-            let vbus = pins.vbus;
-            return vbus_comp(switches0, measure, vbus);
-        }
-        match one_pin(switches0, pins) {
-            Measured::Pin(voltage) => {
-                return voltage.above(MdacCode::of(measure).on_cc());
-            }
-            Measured::Nothing => {
-                return false;
-            }
-        }
+    if !has(PWR2, power) {
+        return false;
     }
-    false
-}
-
-fn differ(one: bool, other: bool) -> bool
-    ensures { result ≡ differ one other }
-{
-    if one {
-        return !other;
+    if has(MEAS_VBUS, measure) {
+        return vbus_comp(switches0, measure, pins.vbus);
     }
-    other
+    let reference = MdacCode::of(measure).reference(MDAC_STEP_CC);
+    one_pin(switches0, pins).is_some_and(|voltage| voltage.above(reference))
 }
 
 // The interrupts of what differs.
 fn changes(before: Readings, now: Readings) -> u8
     ensures { result ≡ changes (shown_as before) (shown_as now) }
 {
-    flag(I_VBUSOK, differ(before.vbus_ok, now.vbus_ok))
-        + flag(I_COMP_CHNG, differ(before.comp, now.comp))
+    flag(I_VBUSOK, before.vbus_ok != now.vbus_ok)
+        + flag(I_COMP_CHNG, before.comp != now.comp)
         + flag(I_BC_LVL, before.bc_lvl != now.bc_lvl)
 }
 
 impl Device {
     // What the comparators show.
     pub(crate) fn readings(self) -> Readings
-        requires { Arranged self }
         ensures { (shown_as result ≡ readings (view self)) × (result.bc_lvl ≤ 3) }
     {
         let cells = self.cells;
@@ -200,7 +160,6 @@ impl Device {
 
     // Sets the interrupts of what the comparators now show otherwise.
     pub(crate) fn reports(self, before: Readings) -> Device
-        requires { Arranged self }
         ensures { Becomes (raises (changes (shown_as before) (readings (view self))) (view self)) result }
     {
         let now = self.readings();
@@ -219,7 +178,7 @@ impl Device {
         ensures { Serves (sense (length symbols.old) cc1.0 cc2.0 vbus.0) self symbols.old result symbols.new }
     {
         if symbols.len() < FRAME_ROOM {
-            return self.refuse(12);
+            return self.refuse(No::SmallBuffer);
         }
         let before = self.readings();
         let pins = Pins { cc1, cc2, vbus };

@@ -1,7 +1,8 @@
 // The transmit queue (01, 'The transmit queue'): tokens, counted blocks, and the message that it spells.
-ghost use Rattle.std.specs.Prelude.{◌≡◌, [], ◌∷◌, ◌++◌, ◌≤◌, ◌<◌, length, take};
-ghost use Rattle.machine.specs.Queue.{announced, is_token, same_list, spelt};
-ghost use Rattle.fusb302.specs.Queued.{queued, Kept, spelt_as, sop_kind, kind_of};
+ghost use Rattle.std.specs.Prelude.{◌≡◌, ◌≤◌, length, take};
+ghost use Rattle.machine.specs.Queue.{announced, is_token, to_come};
+
+use line::kind::SopKind;
 
 pub(crate) const START: u8 = 0xA1;
 
@@ -11,17 +12,20 @@ const EOP: u8 = 0x14;
 
 const TXOFF: u8 = 0xFE;
 
-const SOP: [u8; 4] = *b"\x12\x12\x12\x13";
+// What ends every message.
+const CLOSING: [u8; 3] = [CRC, EOP, TXOFF];
 
-const SOP_PRIME: [u8; 4] = *b"\x12\x12\x1B\x1B";
-
-const SOP_DOUBLE_PRIME: [u8; 4] = *b"\x12\x1B\x12\x1B";
-
-const SOP_PRIME_DEBUG: [u8; 4] = *b"\x12\x16\x16\x1B";
-
-const SOP_DOUBLE_PRIME_DEBUG: [u8; 4] = *b"\x12\x16\x1B\x13";
+// The tokens of the SOP kinds' sets.
+const SETS: [([u8; 4], SopKind); 5] = [
+    (*b"\x12\x12\x12\x13", SopKind::Sop),
+    (*b"\x12\x12\x1B\x1B", SopKind::SopPrime),
+    (*b"\x12\x1B\x12\x1B", SopKind::SopDoublePrime),
+    (*b"\x12\x16\x16\x1B", SopKind::SopPrimeDebug),
+    (*b"\x12\x16\x1B\x13", SopKind::SopDoublePrimeDebug),
+];
 
 // How many data octets a token announces.
+#[tactic(auto, unfolding(machine::specs::Queue::announced))]
 pub(crate) fn announced(token: u8) -> u8
     ensures { result ≡ announced token }
 {
@@ -31,84 +35,45 @@ pub(crate) fn announced(token: u8) -> u8
     }
 }
 
+#[tactic(auto, unfolding(machine::specs::Queue::is_token, machine::specs::Queue::set_symbol))]
 pub(crate) fn is_token(octet: u8) -> bool
     ensures { result ≡ is_token octet }
 {
-    match octet {
-        0x12 => true,
-        0x13 => true,
-        0x1B => true,
-        0x15 => true,
-        0x16 => true,
-        0x82..=0x9E => true,
-        CRC => true,
-        EOP => true,
-        TXOFF => true,
-        START => true,
-        _ => false,
-    }
+    matches!(
+        octet,
+        0x12 | 0x13 | 0x15 | 0x16 | 0x1B | 0x82..=0x9E | CRC | EOP | TXOFF | START
+    )
 }
 
 // The octets written and not yet sent, and how many data octets of a counted block are still to come.
+// An array and a length, for the reason that a Fifo is one.
 #[derive(Clone, Copy)]
 pub struct Queue {
     pub(crate) octets: [u8; Queue::CAPACITY],
     pub(crate) len: usize,
     pub(crate) left: u8,
+    ghost size: { length octets ≡ 48 },
+    ghost room: { len ≤ 48 },
+    ghost counted: { left ≡ to_come 0 (take len octets) },
 }
 
 // The message that a queue spells: its kind and the number of its octets.
 #[derive(Clone, Copy)]
-pub(crate) enum Message {
-    Spelt { kind: u8, count: usize },
-    Nothing,
-}
-
-// Whether the queue begins with a set.
-fn begins(octets: &[u8], set: &[u8]) -> bool
-    requires { (4 ≤ length octets.now) × (length set.now ≡ 4) }
-    ensures { result ≡ same_list (take 4 octets.now) set.now }
-{
-    if octets[0] != set[0] {
-        return false;
-    }
-    if octets[1] != set[1] {
-        return false;
-    }
-    if octets[2] != set[2] {
-        return false;
-    }
-    octets[3] == set[3]
-}
-
-// The SOP kind whose set the queue begins with, or 5.
-fn kind_of(octets: &[u8]) -> u8
-    requires { 4 ≤ length octets.now }
-    ensures { (sop_kind result ≡ kind_of (take 4 octets.now)) × (result ≤ 5) }
-{
-    if begins(octets, &SOP) {
-        return 0;
-    }
-    if begins(octets, &SOP_PRIME) {
-        return 1;
-    }
-    if begins(octets, &SOP_DOUBLE_PRIME) {
-        return 2;
-    }
-    if begins(octets, &SOP_PRIME_DEBUG) {
-        return 3;
-    }
-    if begins(octets, &SOP_DOUBLE_PRIME_DEBUG) {
-        return 4;
-    }
-    5
+pub(crate) struct Message {
+    pub(crate) kind: SopKind,
+    pub(crate) count: usize,
 }
 
 impl Queue {
+    ghost use Rattle.std.specs.Prelude.{[], ◌∷◌, ◌++◌, ◌<◌};
+    ghost use Rattle.machine.specs.Queue.{spelt};
+    ghost use Rattle.fusb302.specs.Queued.{queued, spelt_as, sop_kind, kind_of};
+
     pub(crate) const CAPACITY: usize = 48;
 
+    #[tactic(auto, unfolding(machine::specs::Queue::to_come))]
     pub(crate) fn empty() -> Queue
-        ensures { Kept result × (queued result ≡ []) }
+        ensures { queued result ≡ [] }
     {
         Queue {
             octets: [0; Queue::CAPACITY],
@@ -118,47 +83,38 @@ impl Queue {
     }
 
     pub(crate) fn push(mut self, octet: u8) -> Queue
-        requires { Kept self × (self.len < 48) }
-        ensures { Kept result × (queued result ≡ queued self ++ (octet ∷ [])) }
+        requires { self.len < 48 }
+        ensures { queued result ≡ queued self ++ (octet ∷ []) }
     {
-        let at = self.len;
-        let left = self.left;
-        self.octets[at] = octet;
-        self.len = at + 1;
-        if left == 0 {
-            self.left = announced(octet);
+        self.octets[self.len] = octet;
+        self.len += 1;
+        self.left = if self.left == 0 {
+            announced(octet)
         } else {
-            self.left = left - 1;
-        }
+            self.left - 1
+        };
         self
     }
 
-    pub(crate) fn message(self) -> Message
-        requires { Kept self }
+    // The SOP kind whose set the queue begins with.
+    fn kind(self) -> Option<SopKind>
+        ensures { sop_kind result ≡ kind_of (take 4 self.octets) }
+    {
+        SETS.iter()
+            .find(|(set, _)| self.octets.starts_with(set))
+            .map(|(_, kind)| *kind)
+    }
+
+    pub(crate) fn message(self) -> Option<Message>
         ensures { spelt_as result (queued self) ≡ spelt (queued self) }
     {
-        let octets = self.octets;
-        let len = self.len;
-        let count = announced(octets[4]) as usize;
-        if count == 0 {
-            return Message::Nothing;
+        let count = announced(self.octets[4]) as usize;
+        if count == 0 || self.len != count + 8 {
+            return None;
         }
-        if len != count + 8 {
-            return Message::Nothing;
-        }
-        let kind = kind_of(&octets);
-        if kind == 5 {
-            return Message::Nothing;
-        }
-        if octets[count + 5] != CRC {
-            return Message::Nothing;
-        }
-        if octets[count + 6] != EOP {
-            return Message::Nothing;
-        }
-        if octets[count + 7] != TXOFF {
-            return Message::Nothing;
-        }
-        Message::Spelt { kind, count }
+        let kind = self.kind()?;
+        self.octets[..self.len]
+            .ends_with(&CLOSING)
+            .then_some(Message { kind, count })
     }
 }

@@ -2,7 +2,7 @@
 ghost use Rattle.std.specs.Prelude.{◌≡◌, ◌||◌, ◌+◌, ◌-◌, ◌≤◌, eqb, length, get_or};
 ghost use Rattle.machine.specs.Status.{tx_room, rx_room, RXSOP2, RXSOP1, flag, last_is, status1a_of, status0_of, status1_of, shown};
 ghost use Rattle.machine.specs.Events.{read};
-ghost use Rattle.fusb302.specs.View.{view, Arranged, Asks, Level};
+ghost use Rattle.fusb302.specs.View.{view, Asks, Level};
 ghost use Rattle.fusb302.specs.Serves.{Serves, PortRead};
 
 use crate::bits::{
@@ -12,34 +12,32 @@ use crate::bits::{
 use crate::device::{Device, FRAME_ROOM, Outcome};
 use crate::fifo::Fifo;
 use crate::queue::Queue;
+use crate::refusals::No;
+use line::kind::SopKind;
 
 // Either FIFO full.
 fn either_full(rx: usize, tx: usize) -> bool
     ensures { result ≡ (eqb rx rx_room || eqb tx tx_room) }
 {
-    if rx == Fifo::CAPACITY {
-        return true;
-    }
-    tx == Queue::CAPACITY
+    rx == Fifo::CAPACITY || tx == Queue::CAPACITY
 }
 
 impl Device {
     // ---- status
 
+    #[tactic(auto, unfolding(machine::specs::Status::status1a_of))]
     fn status1a(self) -> u8
         ensures { result ≡ status1a_of (view self) }
     {
-        let kind = self.status.kind;
-        match kind {
-            4 => RXSOP2DB,
-            3 => RXSOP1DB,
-            0 => RXSOP,
+        match self.status.kind {
+            Some(SopKind::SopDoublePrimeDebug) => RXSOP2DB,
+            Some(SopKind::SopPrimeDebug) => RXSOP1DB,
+            Some(SopKind::Sop) => RXSOP,
             _ => 0,
         }
     }
 
     fn status0(self) -> u8
-        requires { Arranged self }
         ensures { result ≡ status0_of (view self) }
     {
         let full = either_full(self.rx.len, self.tx.len);
@@ -55,16 +53,14 @@ impl Device {
     fn rx_kind(self) -> u8
         ensures { (result ≡ flag RXSOP2 (last_is (view self) 2) + flag RXSOP1 (last_is (view self) 1)) × (result ≤ RXSOP2 + RXSOP1) }
     {
-        let kind = self.status.kind;
-        match kind {
-            2 => RXSOP2,
-            1 => RXSOP1,
+        match self.status.kind {
+            Some(SopKind::SopDoublePrime) => RXSOP2,
+            Some(SopKind::SopPrime) => RXSOP1,
             _ => 0,
         }
     }
 
     fn status1(self) -> u8
-        requires { Arranged self }
         ensures { result ≡ status1_of (view self) }
     {
         let rx = self.rx.len;
@@ -77,7 +73,7 @@ impl Device {
     }
 
     fn shown(self, address: u8) -> u8
-        requires { Arranged self × (0x3C ≤ address) × (address ≤ 0x42) }
+        requires { (0x3C ≤ address) × (address ≤ 0x42) }
         ensures { result ≡ get_or (shown (view self)) (address - 0x3C) 0 }
     {
         match address {
@@ -92,21 +88,16 @@ impl Device {
     }
 
     // The level of INT_N: low (false) exactly when interrupts are on and an unmasked one is set.
+    #[tactic(auto, unfolding(machine::specs::Status::int_low, machine::specs::Registers::cell))]
     pub fn int_n(self) -> bool
         requires { Asks self }
         ensures { Level self result }
     {
         let cells = self.cells;
-        if has(INT_MASK, cells[CONTROL0]) {
-            return true;
-        }
-        if has(!cells[MASKA], self.ints.a) {
-            return false;
-        }
-        if has(!cells[MASKB], self.ints.b) {
-            return false;
-        }
-        !has(!cells[MASK], self.ints.main)
+        let unmasked = has(!cells[MASKA], self.ints.a)
+            || has(!cells[MASKB], self.ints.b)
+            || has(!cells[MASK], self.ints.main);
+        has(INT_MASK, cells[CONTROL0]) || !unmasked
     }
 
     // ---- reads
@@ -117,7 +108,7 @@ impl Device {
     {
         let rx = self.rx;
         if rx.len == 0 {
-            return self.refuse(8);
+            return self.refuse(No::NothingHeld);
         }
         let octet = rx.first();
         let rest = rx.rest();
@@ -130,7 +121,7 @@ impl Device {
         ensures { Serves (read (length symbols.old) address) self symbols.old result symbols.new }
     {
         if symbols.len() < FRAME_ROOM {
-            return self.refuse(12);
+            return self.refuse(No::SmallBuffer);
         }
         match place_of(address) {
             Place::Id => self.give(0x91),
@@ -147,7 +138,7 @@ impl Device {
                 self.give(octet)
             }
             Place::Port => self.read_port(),
-            Place::Nowhere => self.refuse(1),
+            Place::Nowhere => self.refuse(No::NoSuchAddress),
         }
     }
 }

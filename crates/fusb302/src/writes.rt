@@ -1,16 +1,15 @@
 // Writes: what refuses one, and what one does (01, 'Registers', 'The transmit queue', 'Numbers of no').
-ghost use Rattle.std.specs.Prelude.{◌≡◌, true, false, cond, ◌&&◌, ◌≤◌, ◌<◌, leb, eqb, length};
+ghost use Rattle.std.specs.Prelude.{◌≡◌, true, false, ◌&&◌, ◌≤◌, ◌<◌, leb, eqb, length, Ok};
 ghost use Rattle.machine.specs.Status.{tx_room};
 ghost use Rattle.line.specs.Frame.{Octets};
-ghost use Rattle.line.specs.Write.{frame_room};
-ghost use Rattle.machine.specs.Registers.{fifos, has, TX_FLUSH, TX_START};
+ghost use Rattle.machine.specs.Registers.{control0, control3, fifos, has, TX_FLUSH, TX_START};
 ghost use Rattle.machine.specs.Queue.{START, is_message};
 ghost use Rattle.machine.specs.Requests.{driver_on};
 ghost use Rattle.machine.specs.Events.{write};
 ghost use Rattle.machine.specs.Step.{restored, pd_reset, queues, control0_written, control1_written, control3_written, reset_written, port_written, written};
-ghost use Rattle.fusb302.specs.Queued.{queued, Kept};
-ghost use Rattle.fusb302.specs.View.{view, Arranged, Asks};
-ghost use Rattle.fusb302.specs.Serves.{Becomes, Does, DoesQuietly, Serves, Refuses, start_no};
+ghost use Rattle.fusb302.specs.Queued.{queued};
+ghost use Rattle.fusb302.specs.View.{view, Asks};
+ghost use Rattle.fusb302.specs.Serves.{Becomes, Does, DoesQuietly, Serves, Refuses, sending_no, start_no, storing_no};
 
 use crate::bits::{
     I_ALERT, I_HARDSENT, PD_RESET, Place, RX_FLUSH, SEND_HARD_RESET, SW_RES, SWITCHES1, TX_FLUSH,
@@ -18,110 +17,108 @@ use crate::bits::{
 };
 use crate::device::{Device, FRAME_ROOM, Outcome, Status};
 use crate::fifo::Fifo;
-use crate::queue::{Message, Queue, START, is_token};
-use crate::send::{HARD_RESET, put};
-
-// The number of no for a start; 0 for none.
-fn start_no(tx: Queue, switches1: u8) -> u8
-    requires { Kept tx }
-    ensures { result ≡ start_no (is_message (queued tx)) (driver_on switches1) }
-{
-    match tx.message() {
-        Message::Spelt { kind: _, count: _ } => {
-            if driver_on(switches1) {
-                return 0;
-            }
-            7
-        }
-        Message::Nothing => 4,
-    }
-}
-
-// The number of no for an octet to be stored; 0 for none.
-fn full_no(held: usize) -> u8
-    ensures { result ≡ cond (leb tx_room held) 5 0 }
-{
-    if held < Queue::CAPACITY {
-        return 0;
-    }
-    5
-}
+use crate::queue::{Queue, START, is_token};
+use crate::refusals::No;
+use crate::send::put;
+use line::kind::Kind;
 
 // Whether an octet at the port starts a request: A1 where it is not data.
 fn is_start(left: u8, octet: u8) -> bool
     ensures { result ≡ (eqb left 0 && eqb octet START) }
 {
-    if left == 0 {
-        return octet == START;
+    left == 0 && octet == START
+}
+
+// What is sent needs the driver.
+fn may_send(switches1: u8) -> Result<(), No>
+    ensures { result ≡ sending_no (driver_on switches1) }
+{
+    if driver_on(switches1) {
+        return Ok(());
     }
-    false
+    Err(No::DriverOff)
+}
+
+fn may_start(tx: Queue, switches1: u8) -> Result<(), No>
+    ensures { result ≡ start_no (is_message (queued tx)) (driver_on switches1) }
+{
+    tx.message().ok_or(No::NotAMessage)?;
+    may_send(switches1)
+}
+
+fn may_store(held: usize) -> Result<(), No>
+    ensures { result ≡ storing_no (leb tx_room held) }
+{
+    if held < Queue::CAPACITY {
+        return Ok(());
+    }
+    Err(No::QueueFull)
 }
 
 impl Device {
-    // ---- what a write is refused with; 0 for nothing
+    // ---- what a write is refused for
 
-    fn port_no(self, octet: u8) -> u8
-        requires { Arranged self }
+    fn may_write_port(self, octet: u8) -> Result<(), No>
         ensures { Refuses (view self) fifos octet result }
     {
-        if self.request.active {
-            return 6;
+        if self.request.is_some() {
+            return Err(No::RequestOpen);
         }
         let tx = self.tx;
-        if tx.left == 0 {
-            if octet == START {
-                return start_no(tx, self.cells[SWITCHES1]);
-            }
-            if is_token(octet) {
-                return full_no(tx.len);
-            }
-            return 3;
+        if is_start(tx.left, octet) {
+            return may_start(tx, self.cells[SWITCHES1]);
         }
-        full_no(tx.len)
+        if tx.left == 0 && !is_token(octet) {
+            return Err(No::NotAToken);
+        }
+        may_store(tx.len)
     }
 
-    fn register_no(self, address: u8, value: u8) -> u8
-        requires { Arranged self × (2 ≤ address) × (address ≤ 0x10) }
+    fn may_write_control0(self, value: u8) -> Result<(), No>
+        ensures { Refuses (view self) control0 value result }
+    {
+        if !has(TX_START, value) {
+            return Ok(());
+        }
+        if self.request.is_some() {
+            return Err(No::RequestOpen);
+        }
+        if has(TX_FLUSH, value) {
+            return Err(No::NotAMessage);
+        }
+        let tx = self.tx;
+        may_start(tx, self.cells[SWITCHES1])
+    }
+
+    fn may_write_control3(self, value: u8) -> Result<(), No>
+        ensures { Refuses (view self) control3 value result }
+    {
+        if has(SEND_HARD_RESET, value) {
+            return may_send(self.cells[SWITCHES1]);
+        }
+        Ok(())
+    }
+
+    fn may_write_register(self, address: u8, value: u8) -> Result<(), No>
+        requires { (2 ≤ address) × (address ≤ 0x10) }
         ensures { Refuses (view self) address value result }
     {
-        let tx = self.tx;
-        let switches1 = self.cells[SWITCHES1];
         match address {
-            0x06 => {
-                if has(TX_START, value) {
-                    if self.request.active {
-                        return 6;
-                    }
-                    if has(TX_FLUSH, value) {
-                        return 4;
-                    }
-                    return start_no(tx, switches1);
-                }
-                0
-            }
-            0x09 => {
-                if has(SEND_HARD_RESET, value) {
-                    if driver_on(switches1) {
-                        return 0;
-                    }
-                    return 7;
-                }
-                0
-            }
-            _ => 0,
+            0x06 => self.may_write_control0(value),
+            0x09 => self.may_write_control3(value),
+            _ => Ok(()),
         }
     }
 
-    fn write_no(self, address: u8, value: u8) -> u8
-        requires { Arranged self }
+    fn may_write(self, address: u8, value: u8) -> Result<(), No>
         ensures { Refuses (view self) address value result }
     {
         match place_of(address) {
-            Place::Id => 2,
-            Place::Stored => self.register_no(address, value),
-            Place::Shown => 2,
-            Place::Port => self.port_no(value),
-            Place::Nowhere => 1,
+            Place::Id => Err(No::ReadOnly),
+            Place::Stored => self.may_write_register(address, value),
+            Place::Shown => Err(No::ReadOnly),
+            Place::Port => self.may_write_port(value),
+            Place::Nowhere => Err(No::NoSuchAddress),
         }
     }
 
@@ -129,7 +126,7 @@ impl Device {
 
     // An octet goes to the queue, which it may make full.
     fn queue(mut self, octet: u8) -> Device
-        requires { Arranged self × (self.tx.len < tx_room) }
+        requires { self.tx.len < tx_room }
         ensures { Becomes (queues octet (view self)) result }
     {
         let tx = self.tx;
@@ -141,23 +138,22 @@ impl Device {
         self
     }
 
-    fn port_written(self, octet: u8, symbols: &mut [u8]) -> Outcome
-        requires { Asks self × Refuses (view self) fifos octet 0 × (frame_room ≤ length symbols.old) }
-        ensures { Does (port_written octet (view self)) symbols.old result symbols.new }
+    fn port_written(self, octet: u8, frame: &mut [u8; FRAME_ROOM]) -> Outcome
+        requires { Asks self × Refuses (view self) fifos octet (Ok tt) }
+        ensures { Does (port_written octet (view self)) frame.old result frame.new }
     {
-        let tx = self.tx;
-        if is_start(tx.left, octet) {
-            return self.begin(symbols);
+        if is_start(self.tx.left, octet) {
+            return self.begin(frame);
         }
         self.queue(octet).done(0)
     }
 
-    fn control0_written(self, value: u8, symbols: &mut [u8]) -> Outcome
-        requires { Arranged self × Octets (queued self.tx) × (has TX_START value ≡ true → has TX_FLUSH value ≡ false) × (frame_room ≤ length symbols.old) }
-        ensures { Does (control0_written value (view self)) symbols.old result symbols.new }
+    fn control0_written(self, value: u8, frame: &mut [u8; FRAME_ROOM]) -> Outcome
+        requires { Octets (queued self.tx) × (has TX_START value ≡ true → has TX_FLUSH value ≡ false) }
+        ensures { Does (control0_written value (view self)) frame.old result frame.new }
     {
         if has(TX_START, value) {
-            return self.begin(symbols);
+            return self.begin(frame);
         }
         if has(TX_FLUSH, value) {
             return self.over().done(0);
@@ -166,7 +162,6 @@ impl Device {
     }
 
     fn control1_written(mut self, value: u8) -> Outcome
-        requires { Arranged self }
         ensures { DoesQuietly (control1_written value (view self)) result }
     {
         if has(RX_FLUSH, value) {
@@ -176,12 +171,11 @@ impl Device {
         self.done(0)
     }
 
-    fn control3_written(self, value: u8, symbols: &mut [u8]) -> Outcome
-        requires { Arranged self × (frame_room ≤ length symbols.old) }
-        ensures { Does (control3_written value (view self)) symbols.old result symbols.new }
+    fn control3_written(self, value: u8, frame: &mut [u8; FRAME_ROOM]) -> Outcome
+        ensures { Does (control3_written value (view self)) frame.old result frame.new }
     {
         if has(SEND_HARD_RESET, value) {
-            let count = put(HARD_RESET, b"", symbols);
+            let count = put(Kind::HardReset, b"", frame);
             return self.over().hides_fails().raises_a(I_HARDSENT).done(count);
         }
         self.done(0)
@@ -189,7 +183,6 @@ impl Device {
 
     // Both FIFOs empty, no request, and the status cleared.
     fn pd_reset(self) -> Device
-        requires { Arranged self }
         ensures { Becomes (pd_reset (view self)) result }
     {
         let mut cleared = self.over();
@@ -209,7 +202,6 @@ impl Device {
     }
 
     fn reset_written(self, value: u8) -> Outcome
-        requires { Arranged self }
         ensures { DoesQuietly (reset_written value (view self)) result }
     {
         if has(SW_RES, value) {
@@ -221,12 +213,12 @@ impl Device {
         self.done(0)
     }
 
-    fn write_taken(mut self, address: u8, value: u8, symbols: &mut [u8]) -> Outcome
-        requires { Asks self × Refuses (view self) address value 0 × (frame_room ≤ length symbols.old) }
-        ensures { Does (written address value (view self)) symbols.old result symbols.new }
+    fn write_taken(mut self, address: u8, value: u8, frame: &mut [u8; FRAME_ROOM]) -> Outcome
+        requires { Asks self × Refuses (view self) address value (Ok tt) }
+        ensures { Does (written address value (view self)) frame.old result frame.new }
     {
         if address == 0x43 {
-            return self.port_written(value, symbols);
+            return self.port_written(value, frame);
         }
         let before = self.readings();
         let at = (address - 2) as usize;
@@ -234,9 +226,9 @@ impl Device {
         cells[at] = value & stored_bits(address);
         self.cells = cells;
         match address {
-            0x06 => self.control0_written(value, symbols),
+            0x06 => self.control0_written(value, frame),
             0x07 => self.control1_written(value),
-            0x09 => self.control3_written(value, symbols),
+            0x09 => self.control3_written(value, frame),
             0x0C => self.reset_written(value),
             _ => self.reports(before).done(0),
         }
@@ -247,13 +239,12 @@ impl Device {
         requires { Asks self }
         ensures { Serves (write (length symbols.old) address value) self symbols.old result symbols.new }
     {
-        if symbols.len() < FRAME_ROOM {
-            return self.refuse(12);
+        let Some(frame) = symbols.first_chunk_mut::<FRAME_ROOM>() else {
+            return self.refuse(No::SmallBuffer);
+        };
+        match self.may_write(address, value) {
+            Ok(()) => self.write_taken(address, value, frame),
+            Err(no) => self.refuse(no),
         }
-        let no = self.write_no(address, value);
-        if no == 0 {
-            return self.write_taken(address, value, symbols);
-        }
-        self.refuse(no)
     }
 }

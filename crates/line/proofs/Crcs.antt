@@ -4,13 +4,13 @@ use mathlib.Core.Path.{◌≡◌, refl, sym, ap, ap₂, ◌∙◌}
 use mathlib.Core.Bool.{true, false}
 use mathlib.Core.List.{List, [], ◌∷◌, ◌++◌}
 use Prim.Native.Nat.{ℕ, zero, suc, ◌+◌, ◌*◌, ◌-◌, ◌/◌, ◌%◌, ◌<◌, ◌≤◌}
-use native.Mathlib.Nat.{add-zero, div-div-eq-div-mul, mod-eq_of_lt, mod-lt}
+use native.Mathlib.Nat.{div-div-eq-div-mul, mod-eq_of_lt, mod-lt}
 use native.Mathlib.Omega.{arith}
 use borrow.Author.Tests.{eq-eqb, eqb-true, le-leb, lt-leb}
 use lib.Arith.{digits_div, digits_mod}
 use lib.Dec.{eqb, lit<}
 use lib.ListN.{length, take, drop, get_or, length-append, length-drop, take-append-drop}
-use lib.Seq.{get_or-drop, take_at, drop_at, length-take-le}
+use lib.Seq.{take_at, drop_at, length-take-le}
 use Rattle.line.specs.Crc.{crc_of, four_octets, with_crc, number, crc_right}
 use Rattle.line.specs.Frame.{Octets}
 
@@ -132,8 +132,10 @@ pub crc_few : (l : List ℕ) → length l < 4 → false ≡ crc_right l
 unfolding crc_right
 crc_few l h = rw (lt-leb 4 (length l) h) refl
 
-pub crc_is : (l : List ℕ) (c d : ℕ) → 4 ≤ length l → c ≡ crc_of (take (length l - 4) l)
-    → d ≡ get_or l (length l - 4) 0 + 256 * get_or l (length l - 4 + 1) 0 + 65536 * get_or l (length l - 4 + 2) 0 + 16777216 * get_or l (length l - 4 + 3) 0
-    → eqb c d ≡ crc_right l
+pub crc_is : (l m tail : List ℕ) (c d : ℕ) → (m ≡ take (length l - 4) l) × (tail ≡ drop (length l - 4) l) × (length m + 4 ≡ length l) → c ≡ crc_of m
+    → d ≡ get_or tail 0 0 + get_or tail 1 0 * 256 + get_or tail 2 0 * 65536 + get_or tail 3 0 * 16777216 → eqb c d ≡ crc_right l
 unfolding crc_right number
-crc_is l c d h e f = rw (le-leb 4 (length l) h) (ap₂ eqb e (f ∙ sym (simp (get_or-drop, add-zero))))
+crc_is l m tail c d s e f =
+    let long : 4 ≤ length l = let h = s.2 in omega arith in
+    let four : number tail ≡ d = omega arith in
+    rw (le-leb 4 (length l) long) (ap₂ eqb (e ∙ ap crc_of s.0) (sym four ∙ ap number s.1))

@@ -1,5 +1,6 @@
 -- Laws of the definitions, the steps of the functions, and the proofs of specs/Theorems.antt.
 pub mod Table
+pub mod Numbers
 pub mod Nibbles
 pub mod Looks
 pub mod Starts

@@ -1,173 +1,122 @@
 -- How the code looks for a set: place after place, and kind after kind.
 -- Assumes nothing.
-use mathlib.Core.Path.{◌≡◌, refl, sym, ap, ap₂, ◌∙◌, subst}
-use mathlib.Core.Bool.{true, false}
-use mathlib.Core.List.{List, [], ◌∷◌, ◌++◌, append_assoc, append-nil}
-use mathlib.Core.Logic.{◌⊎◌, inl, inr}
+use mathlib.Core.Path.{◌≡◌, refl, sym, ap, ap₂, ◌∙◌}
+use mathlib.Core.Bool.{Bool, true, false, cond}
+use mathlib.Core.List.{List, [], ◌∷◌, map}
 use mathlib.Core.Option.{Option, none, some}
-use Prim.Native.Nat.{ℕ, suc, ◌+◌, ◌<◌, ◌≤◌}
-use native.Mathlib.Numerals.{add-one}
+use Prim.Native.Nat.{ℕ, suc, ◌<◌, ◌≤◌}
+use native.Mathlib.Decide.{ℕ_discrete}
 use native.Mathlib.Omega.{arith}
 use borrow.Author.Tests.{eq-eqb, ne_eqb, lt-ltb, le-ltb}
-use lib.ListN.{length, drop, get_or, length-append, drop_of_length-le}
-use lib.Seq.{drop-cons}
-use Rattle.line.proofs.Looks.{empty}
-use Rattle.line.proofs.Starts.{set_length}
-use Rattle.line.proofs.Agreeing.{agree_same, agree_other, all_common, common_all}
-use Rattle.line.specs.Kind.{ordered_sets, kinds, set_of, common, kind_from}
+use lib.Dec.{eqb}
+use lib.ListN.{length}
+use Rattle.std.specs.Prelude.{filter, find}
+use Rattle.std.specs.Prelude.{Option as Maybe, Some, None}
+use Rattle.std.specs.List.{zip}
+use Rattle.line.specs.declared.kind.Kind.{Kind}
+use Rattle.line.specs.Numbered.{kind_number}
+use Rattle.line.specs.Kind.{set_of, common, kind_from}
 use Rattle.line.specs.Read.{found, short, misfit, agree, agreeing, single, taken_or, set_at}
+use Rattle.line.proofs.Numbers.{in_order, kind_below}
+use Rattle.line.proofs.Starts.{set_length}
+use Rattle.line.proofs.Agreeing.{all_common, common_all}
 
 -- ---- in how many places a set and a record agree
 
--- n of the first i
-pub record Counted (s l : List ℕ) (i n : ℕ) : Type 0 where
-  pub in_set : i ≤ length s
-  pub few : n ≤ i
-  pub so_far : agree s l ≡ n + agree (drop i s) (drop i l)
+pub counted : (s l : List ℕ) → length (filter (λ (p : ℕ × ℕ). eqb p.0 p.1) (zip s l)) ≡ agree s l
+unfolding agree
+counted [] l = refl
+counted (x ∷ xs) [] = refl
+counted (x ∷ xs) (y ∷ ys) = go (eqb x y) (filter (λ (p : ℕ × ℕ). eqb p.0 p.1) (zip xs ys)) (counted xs ys)
+  where
+    go : (b : Bool) (more : List (ℕ × ℕ)) → length more ≡ agree xs ys
+        → length (cond b ((x, y) ∷ more) more) ≡ cond b (suc (agree xs ys)) (agree xs ys)
+    go true more e = ap suc e
+    go false more e = e
 
-pub begin : (s l : List ℕ) → Counted s l 0 0
-begin s l = record { in_set = omega arith; few = omega arith; so_far = omega arith }
+-- ---- the kinds whose sets agree with a record in n places
 
-module _ (s l : List ℕ) (i n : ℕ) (st : Counted s l i n) where
-  pub set_ends : length s ≤ i → n ≡ agree s l
-  unfolding agree
-  set_ends h = let z = st.so_far in let e : agree (drop i s) (drop i l) ≡ 0 = ap (λ (x : List ℕ). agree x (drop i l)) (drop_of_length-le s h) in omega arith
+abbrev pub in_places : ℕ → List ℕ → Kind → Bool
+in_places n l k = eqb (agree (set_of (kind_number k)) l) n
 
-  module _ (a : i < length s) (b : i < length l) where
-    agrees : get_or s i 0 ≡ get_or l i 0 → Counted s l (i + 1) (n + 1)
-    agrees h =
-        let e : agree (drop i s) (drop i l) ≡ suc (agree (drop (suc i) s) (drop (suc i) l)) =
-        rw (drop-cons s i 0 a, drop-cons l i 0 b) (agree_same (get_or s i 0) (get_or l i 0) _ _ h) in
-        let z = st.so_far in
-        let f = st.few in
-        record { in_set = omega arith; few = omega arith; so_far = rw (add-one i) (omega arith) }
+-- kinds numbered from n on
+abbrev Numbered : ℕ → List Kind → Type 0
+Numbered n [] = Unit {0}
+Numbered n (k ∷ ks) = (kind_number k ≡ n) × Numbered (suc n) ks
 
-    differs : (get_or s i 0 ≡ get_or l i 0 → ⊥) → Counted s l (i + 1) n
-    differs h =
-        let e : agree (drop i s) (drop i l) ≡ agree (drop (suc i) s) (drop (suc i) l) =
-        rw (drop-cons s i 0 a, drop-cons l i 0 b) (agree_other (get_or s i 0) (get_or l i 0) _ _ h) in
-        let z = st.so_far in
-        let f = st.few in
-        record { in_set = omega arith; few = omega arith; so_far = rw (add-one i) (omega arith) }
+abbrev sets_of : List Kind → List (List ℕ)
+sets_of ks = map (λ (k : Kind). set_of (kind_number k)) ks
 
-    -- after the test, whichever way it went
-    pub goes_on : (m : ℕ) → ((get_or s i 0 ≡ get_or l i 0) × (m ≡ n + 1)) ⊎ ((get_or s i 0 ≡ get_or l i 0 → ⊥) × (m ≡ n)) → Counted s l (i + 1) m
-    goes_on m (inl t) = subst (Counted s l (i + 1)) (sym t.1) (agrees t.0)
-    goes_on m (inr t) = subst (Counted s l (i + 1)) (sym t.1) (differs t.0)
+number_of : Maybe Kind → Option ℕ
+number_of None = none
+number_of (Some k) = some (kind_number k)
 
--- ---- the sets of the kinds below k were tried: none matches, count of them agree in three places, and near is the last of these
+same_four : (k : Kind) (l : List ℕ) → eqb (common (set_of (kind_number k)) l) 4 ≡ eqb (agree (set_of (kind_number k)) l) 4
+same_four k l =
+    let s = set_of (kind_number k) in
+    let n : length s ≡ 4 = set_length (kind_number k) (kind_below k) in
+    elim (ℕ_discrete (agree s l) 4) [
+      | yes e ↦ eq-eqb (common s l) 4 (all_common s l (e ∙ sym n) ∙ n) ∙ sym (eq-eqb (agree s l) 4 e)
+      | no e ↦ ne_eqb (common s l) 4 (λ c. e (common_all s l (c ∙ sym n) ∙ n)) ∙ sym (ne_eqb (agree s l) 4 e)
+    ]
 
-pub record Tried (l : List ℕ) (near count k : ℕ) : Type 0 where
-  pub below : k ≤ kinds
-  pub few : count ≤ k
-  pub left : kind_from 0 ordered_sets l ≡ kind_from k (drop k ordered_sets) l
-  pub so_far : List ℕ
-  pub three : agreeing 0 ordered_sets l ≡ so_far ++ agreeing k (drop k ordered_sets) l
-  pub many : length so_far ≡ count
-  pub only : count ≡ 1 → so_far ≡ near ∷ []
+first_exact : (n : ℕ) (ks : List Kind) (l : List ℕ) → Numbered n ks → kind_from n (sets_of ks) l ≡ number_of (find (in_places 4 l) ks)
+unfolding kind_from number_of
+first_exact n [] l h = refl
+first_exact n (k ∷ ks) l h = rw (same_four k l) (go (in_places 4 l k) (first_exact (suc n) ks l h.1))
+  where
+    go : (b : Bool) → kind_from (suc n) (sets_of ks) l ≡ number_of (find (in_places 4 l) ks)
+        → cond b (some n) (kind_from (suc n) (sets_of ks) l) ≡ number_of (cond b (Some k) (find (in_places 4 l) ks))
+    go true e = ap some (sym h.0)
+    go false e = e
 
-pub untried : (l : List ℕ) → Tried l 0 0 0
-untried l =
-    record { below = omega arith; few = omega arith; left = refl; so_far = []; three = refl; many = refl; only = λ e. absurd (omega arith) }
+all_near : (n : ℕ) (ks : List Kind) (l : List ℕ) → Numbered n ks → agreeing n (sets_of ks) l ≡ map kind_number (filter (in_places 3 l) ks)
+unfolding agreeing
+all_near n [] l h = refl
+all_near n (k ∷ ks) l h = go (in_places 3 l k) (all_near (suc n) ks l h.1)
+  where
+    go : (b : Bool) → agreeing (suc n) (sets_of ks) l ≡ map kind_number (filter (in_places 3 l) ks)
+        → cond b (n ∷ agreeing (suc n) (sets_of ks) l) (agreeing (suc n) (sets_of ks) l)
+        ≡ map kind_number (cond b (k ∷ filter (in_places 3 l) ks) (filter (in_places 3 l) ks))
+    go true e = ap₂ (λ (i : ℕ) (is : List ℕ). i ∷ is) (sym h.0) e
+    go false e = e
+
+-- ---- which set is taken
 
 -- too few symbols
-pub few_symbols : (l : List ℕ) → length l < 4 → short (length l) ≡ set_at l
+pub few_symbols : (l : List ℕ) → length l < 4 → set_at l ≡ short (length l)
 unfolding set_at
 few_symbols l h = simp (lt-ltb (length l) 4 h)
 
-module _ (l : List ℕ) (near count k : ℕ) (st : Tried l near count k) (long : 4 ≤ length l) where
-  taken_at : set_at l ≡ taken_or (kind_from 0 ordered_sets l) (agreeing 0 ordered_sets l)
-  unfolding set_at
-  taken_at = simp (le-ltb (length l) 4 long)
+module _ (l : List ℕ) (long : 4 ≤ length l) where
+  by_kinds : set_at l ≡ taken_or (number_of (find (in_places 4 l) in_order)) (map kind_number (filter (in_places 3 l) in_order))
+  unfolding set_at set_of
+  by_kinds =
+      let h : Numbered 0 in_order = (refl, (refl, (refl, (refl, (refl, (refl, tt)))))) in
+      simp (le-ltb (length l) 4 long) (ap₂ taken_or (first_exact 0 in_order l h) (all_near 0 in_order l h))
 
-  module _ (h : k < kinds) where
-    row : drop k ordered_sets ≡ set_of k ∷ drop (suc k) ordered_sets
-    unfolding set_of
-    row = drop-cons ordered_sets k [] h
+  pub is_exact : (k : Kind) → find (in_places 4 l) in_order ≡ Some k → set_at l ≡ found (record { kind = kind_number k; exact = true })
+  unfolding taken_or number_of
+  is_exact k e = by_kinds ∙ ap (λ (o : Maybe Kind). taken_or (number_of o) (map kind_number (filter (in_places 3 l) in_order))) e
 
-    module _ (s : List ℕ) (n : ℕ) (es : s ≡ set_of k) (en : n ≡ agree s l) where
-      of_set : agree (set_of k) l ≡ n
-      of_set = ap (λ (x : List ℕ). agree x l) (sym es) ∙ sym en
+  module _ (other : find (in_places 4 l) in_order ≡ None) where
+    by_near : set_at l ≡ single (map kind_number (filter (in_places 3 l) in_order))
+    unfolding taken_or number_of
+    by_near = by_kinds ∙ ap (λ (o : Maybe Kind). taken_or (number_of o) (map kind_number (filter (in_places 3 l) in_order))) other
 
-      pub is_set : n ≡ 4 → found (record { kind = k; exact = true }) ≡ set_at l
-      unfolding kind_from taken_or
-      is_set e =
-          let four : common (set_of k) l ≡ 4 = all_common (set_of k) l (of_set ∙ e ∙ sym (set_length k h)) ∙ set_length k h in
-          let o : kind_from k (set_of k ∷ drop (suc k) ordered_sets) l ≡ some k = simp (eq-eqb _ 4 four) in
-          let kind : kind_from 0 ordered_sets l ≡ some k = st.left ∙ ap (λ (ss : List (List ℕ)). kind_from k ss l) row ∙ o in
-          sym (taken_at ∙ ap (λ (o : Option ℕ). taken_or o (agreeing 0 ordered_sets l)) kind)
-
-      module _ (other : n ≡ 4 → ⊥) where
-        left_on : kind_from 0 ordered_sets l ≡ kind_from (suc k) (drop (suc k) ordered_sets) l
-        unfolding kind_from
-        left_on =
-            let not-four : common (set_of k) l ≡ 4 → ⊥ =
-            λ e. other (sym of_set ∙ common_all (set_of k) l (e ∙ sym (set_length k h)) ∙ set_length k h) in
-            st.left ∙ ap (λ (ss : List (List ℕ)). kind_from k ss l) row ∙ simp (ne_eqb (common (set_of k) l) 4 not-four)
-
-        -- one more agrees in three places
-        next_near : n ≡ 3 → Tried l k (count + 1) (k + 1)
-        unfolding agreeing
-        next_near e =
-            let f = st.few in
-            let m = st.many in
-            let all : agreeing k (drop k ordered_sets) l ≡ k ∷ agreeing (suc k) (drop (suc k) ordered_sets) l =
-            ap (λ (ss : List (List ℕ)). agreeing k ss l) row ∙ simp (eq-eqb (agree (set_of k) l) 3 (of_set ∙ e)) in
-            record {
-              below = omega arith;
-              few = omega arith;
-              left = rw add-one left_on;
-              so_far = st.so_far ++ (k ∷ []);
-              three =
-                  rw add-one
-                  (st.three
-                  ∙ ap (λ (x : List ℕ). st.so_far ++ x) all
-                  ∙ sym (append_assoc st.so_far (k ∷ []) (agreeing (suc k) (drop (suc k) ordered_sets) l)));
-              many = omega (arith, length-append st.so_far (k ∷ []));
-              only = λ one. ap (λ (x : List ℕ). x ++ (k ∷ [])) (empty st.so_far (omega arith));
-            }
-
-        next_far : (n ≡ 3 → ⊥) → Tried l near count (k + 1)
-        unfolding agreeing
-        next_far e =
-            let f = st.few in
-            let all : agreeing k (drop k ordered_sets) l ≡ agreeing (suc k) (drop (suc k) ordered_sets) l =
-            ap (λ (ss : List (List ℕ)). agreeing k ss l) row ∙ simp (ne_eqb (agree (set_of k) l) 3 (λ w. e (sym of_set ∙ w))) in
-            record {
-              below = omega arith;
-              few = omega arith;
-              left = rw add-one left_on;
-              so_far = st.so_far;
-              three = rw add-one (st.three ∙ ap (λ (x : List ℕ). st.so_far ++ x) all);
-              many = st.many;
-              only = st.only;
-            }
-
-        -- after the test, whichever way it went
-        pub next_kind : (near' count' : ℕ) → ((n ≡ 3) × (near' ≡ k) × (count' ≡ count + 1)) ⊎ ((n ≡ 3 → ⊥) × (near' ≡ near) × (count' ≡ count))
-            → Tried l near' count' (k + 1)
-        next_kind near' count' (inl t) = rw (t.1, t.2) (next_near t.0)
-        next_kind near' count' (inr t) = rw (t.1, t.2) (next_far t.0)
-
-  module _ (h : kinds ≤ k) where
-    by_near : set_at l ≡ single st.so_far
-    unfolding kind_from agreeing taken_or
-    by_near =
-        let d : drop k ordered_sets ≡ [] = drop_of_length-le ordered_sets h in
-        let a : kind_from 0 ordered_sets l ≡ none = st.left ∙ ap (λ (ss : List (List ℕ)). kind_from k ss l) d in
-        let b : agreeing 0 ordered_sets l ≡ st.so_far =
-        st.three ∙ ap (λ (ss : List (List ℕ)). st.so_far ++ agreeing k ss l) d ∙ append-nil st.so_far in
-        taken_at ∙ ap₂ taken_or a b
-
-    pub one_near : count ≡ 1 → found (record { kind = near; exact = false }) ≡ set_at l
+    pub one_near : (k : Kind) → k ∷ [] ≡ filter (in_places 3 l) in_order → set_at l ≡ found (record { kind = kind_number k; exact = false })
     unfolding single
-    one_near e = sym (by_near ∙ ap single (st.only e))
+    one_near k e = by_near ∙ ap (λ (ks : List Kind). single (map kind_number ks)) (sym e)
 
-    pub none_near : (count ≡ 1 → ⊥) → misfit 0 ≡ set_at l
+    pub none_near : [] ≡ filter (in_places 3 l) in_order → set_at l ≡ misfit 0
     unfolding single
-    none_near e = sym (by_near ∙ go st.so_far (λ q. e (sym st.many ∙ q)))
+    none_near e = by_near ∙ ap (λ (ks : List Kind). single (map kind_number ks)) (sym e)
+
+    pub several_near : 1 < length (filter (in_places 3 l) in_order) → set_at l ≡ misfit 0
+    unfolding single
+    several_near h = by_near ∙ go (filter (in_places 3 l) in_order) h
       where
-        go : (ks : List ℕ) → (length ks ≡ 1 → ⊥) → single ks ≡ misfit 0
-        go [] q = refl
-        go (i ∷ []) q = absurd (q refl)
+        go : (ks : List Kind) → 1 < length ks → single (map kind_number ks) ≡ misfit 0
+        go [] q = absurd (omega arith)
+        go (i ∷ []) q = absurd (omega arith)
         go (i ∷ j ∷ ks) q = refl

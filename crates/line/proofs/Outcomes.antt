@@ -3,39 +3,43 @@
 use mathlib.Core.Path.{◌≡◌, refl, sym, ap, ◌∙◌}
 use mathlib.Core.Bool.{cond}
 use lib.Dec.{eqb}
-use Rattle.line.specs.declared.read.Answer.{Answer}
-use Rattle.line.specs.declared.read.Answer.TheVariants.{Frame, SmallBuffer, NoFrame, TooShort, WrongCrc}
-use Rattle.line.specs.declared.write.Written.{Written}
-use Rattle.line.specs.declared.write.Written.TheVariants.{Sent, SmallBuffer as SmallRoom, UnknownKind, WrongLength}
+use Rattle.std.specs.Prelude.{ℕ, Result, Ok, Err}
+use Rattle.line.specs.declared.kind.Kind.{Kind}
+use Rattle.line.specs.declared.read.FoundFrame.{FoundFrame}
+use Rattle.line.specs.declared.read.ReadError.{ReadError}
+use Rattle.line.specs.declared.read.ReadError.TheVariants.{SmallBuffer, NoFrame, TooShort, WrongCrc}
+use Rattle.line.specs.declared.write.WriteError.{WriteError}
+use Rattle.line.specs.declared.write.WriteError.TheVariants.{SmallBuffer as SmallRoom, UnknownKind, WrongLength}
+use Rattle.line.proofs.Numbers.{kind_of, kind_back}
 use Rattle.line.specs.Write.{Wrote, sent, written}
 use Rattle.line.specs.Reader.{Said, was_read, said_no, no_at, said}
 use Rattle.line.specs.Theorems.{OneMeaningWritten, OneMeaningSaid, OneCrc, OneRight, OneRest, OneWriting, OneReading, OneFirstReading}
 
 -- ---- the answer of a meaning
 
-written_of : Wrote → Written
-written_of (sent n) = Sent n
-written_of (Wrote.no n) = cond (eqb n 12) SmallRoom (cond (eqb n 11) UnknownKind WrongLength)
+written_of : Wrote → Result ℕ WriteError
+written_of (sent n) = Ok n
+written_of (Wrote.no n) = Err (cond (eqb n 12) SmallRoom (cond (eqb n 11) UnknownKind WrongLength))
 
-written_back : (r : Written) → written_of (written r) ≡ r
+written_back : (r : Result ℕ WriteError) → written_of (written r) ≡ r
 unfolding written_of
-written_back (Sent n) = refl
-written_back SmallRoom = refl
-written_back UnknownKind = refl
-written_back WrongLength = refl
+written_back (Ok n) = refl
+written_back (Err SmallRoom) = refl
+written_back (Err UnknownKind) = refl
+written_back (Err WrongLength) = refl
 
-answer_of : Said → Answer
-answer_of (was_read k exact n p) = Frame k exact n (record { at = p })
-answer_of (said_no n) = SmallBuffer
-answer_of (no_at n p) = cond (eqb n 13) (NoFrame p) (cond (eqb n 14) (TooShort p) (WrongCrc p))
+answer_of : Said → Result FoundFrame ReadError
+answer_of (was_read k exact n p) = Ok (record { kind = kind_of k; exact = exact; count = n; next = record { at = p } })
+answer_of (said_no n) = Err SmallBuffer
+answer_of (no_at n p) = Err (cond (eqb n 13) (NoFrame p) (cond (eqb n 14) (TooShort p) (WrongCrc p)))
 
-answer_back : (r : Answer) → answer_of (said r) ≡ r
+answer_back : (r : Result FoundFrame ReadError) → answer_of (said r) ≡ r
 unfolding answer_of
-answer_back (Frame k exact n c) = refl
-answer_back SmallBuffer = refl
-answer_back (NoFrame p) = refl
-answer_back (TooShort p) = refl
-answer_back (WrongCrc p) = refl
+answer_back (Ok f) = ap (λ (k : Kind). Ok (record { kind = k; exact = f.exact; count = f.count; next = f.next })) (kind_back f.kind)
+answer_back (Err SmallBuffer) = refl
+answer_back (Err (NoFrame p)) = refl
+answer_back (Err (TooShort p)) = refl
+answer_back (Err (WrongCrc p)) = refl
 
 -- ---- 6. One meaning, one outcome
 

@@ -1,12 +1,11 @@
 -- The register of a CRC, a bit or an octet at a time.
 -- Assumes nothing.
 use mathlib.Core.Path.{◌≡◌, refl, sym, ap, ◌∙◌}
-use mathlib.Core.List.{List}
-use Prim.Native.Nat.{ℕ, zero, suc, ◌+◌, ◌/◌, ◌%◌, ◌<◌, ◌≤◌}
+use mathlib.Core.List.{List, [], ◌∷◌}
+use Prim.Native.Nat.{ℕ, zero, suc, ◌+◌, ◌/◌, ◌%◌}
 use native.Mathlib.Numerals.{add-one}
 use lib.Bits.{bit_xor, bit_and, xor_zero_r, and_mask}
-use lib.ListN.{length, drop, get_or, drop_of_length-le}
-use lib.Seq.{drop-cons}
+use Rattle.std.specs.Prelude.{fold}
 use Rattle.line.specs.Crc.{poly, crc_bit, crc_bits, crc_octet, crc_from}
 
 -- the bit that leaves is 0
@@ -34,13 +33,8 @@ pub eighth : (n c b x : ℕ) → x ≡ crc_bits n (bit_xor c b) → n ≡ 8 → 
 unfolding crc_octet
 eighth n c b x h e = h ∙ ap (λ (k : ℕ). crc_bits k (bit_xor c b)) e
 
--- one octet more
-pub more : (c : ℕ) (s : List ℕ) (i v r : ℕ) → i < length s → crc_from c (drop i s) ≡ v → r ≡ crc_octet c (get_or s i 0)
-    → crc_from r (drop (i + 1) s) ≡ v
+-- octet after octet
+pub folded : (c : ℕ) (l : List ℕ) → fold crc_octet c l ≡ crc_from c l
 unfolding crc_from
-more c s i v r h e q = rw (add-one, q) (rw (drop-cons s i 0) at e)
-
--- no octet left
-pub done : (c : ℕ) (s : List ℕ) (i : ℕ) → length s ≤ i → crc_from c (drop i s) ≡ c
-unfolding crc_from
-done c s i h = rw (drop_of_length-le s)
+folded c [] = refl
+folded c (b ∷ bs) = folded (crc_octet c b) bs

@@ -10,9 +10,11 @@ use lib.Dec.{ltb}
 use lib.ListN.{length, take, drop}
 use lib.Seq.{drop-append_seam, drop-drop, take_at}
 use denote.Ref.{Bor}
-use Rattle.line.specs.declared.read.Answer.{Answer}
-use Rattle.line.specs.declared.read.Answer.TheVariants.{Frame as FrameRead, SmallBuffer, NoFrame, TooShort, WrongCrc}
-use Rattle.line.specs.declared.read.Cursor.{Cursor}
+use Rattle.std.specs.Prelude.{Result, Err}
+use Rattle.line.specs.declared.read.FoundFrame.{FoundFrame}
+use Rattle.line.specs.declared.read.ReadError.{ReadError}
+use Rattle.line.specs.declared.read.ReadError.TheVariants.{SmallBuffer, NoFrame, TooShort, WrongCrc}
+use Rattle.line.specs.Numbered.{kind_number}
 use Rattle.line.specs.declared.read.FirstRead.{FirstRead}
 use Rattle.line.specs.Kind.{kinds, set_of}
 use Rattle.line.specs.Frame.{Shape, drawn, sealed, symbols_of}
@@ -70,7 +72,11 @@ told line at kind exact count place before after false (no_frame w) e p q = let 
 
 pub leaves_rest : LeavesRest
 unfolding says_of filled
-leaves_rest line rest at kind exact count next before after r t =
+leaves_rest line rest at found before after r t =
+    let kind = kind_number found.kind in
+    let exact = found.exact in
+    let count = found.count in
+    let next = found.next in
     let l = drop at line.now in
     let w = told l at kind exact count next.at before after (ltb (length before) octet_room) (first l) refl r.says r.leaves in
     let s = w.read.shape in
@@ -91,29 +97,13 @@ leaves_rest line rest at kind exact count next before after r t =
 
 -- ---- the tail that an answer leads to
 
-module _ (line : Bor (List ℕ)) (a : Answer) where
-  pub tail_on : (k : ℕ) (exact : Bool) (n : ℕ) (c : Cursor) (r : Bor (List ℕ)) → a ≡ FrameRead k exact n c → IsTail line c.at r → IsTail line (behind 0 (said a)) r
-  unfolding behind
-  tail_on k exact n c r e t = rw e t
-
-  all_of : (b : Answer) → a ≡ b → behind 0 (said b) ≡ 0 → IsTail line (behind 0 (said a)) line
-  all_of b e z = rw (e, z) (record { block = refl; offset = omega arith; holds = refl })
-
-  pub all_small : a ≡ SmallBuffer → IsTail line (behind 0 (said a)) line
-  unfolding behind
-  all_small e = all_of SmallBuffer e refl
-
-  pub all_none : (p : ℕ) → a ≡ NoFrame p → IsTail line (behind 0 (said a)) line
-  unfolding behind
-  all_none p e = all_of (NoFrame p) e refl
-
-  pub all_short : (p : ℕ) → a ≡ TooShort p → IsTail line (behind 0 (said a)) line
-  unfolding behind
-  all_short p e = all_of (TooShort p) e refl
-
-  pub all_wrong : (p : ℕ) → a ≡ WrongCrc p → IsTail line (behind 0 (said a)) line
-  unfolding behind
-  all_wrong p e = all_of (WrongCrc p) e refl
+-- a refusal names no other place than the record's beginning
+pub all_left : (line : Bor (List ℕ)) (e : ReadError) → IsTail line (behind 0 (said (Err e))) line
+unfolding behind
+all_left line SmallBuffer = record { block = refl; offset = omega arith; holds = refl }
+all_left line (NoFrame p) = record { block = refl; offset = omega arith; holds = refl }
+all_left line (TooShort p) = record { block = refl; offset = omega arith; holds = refl }
+all_left line (WrongCrc p) = record { block = refl; offset = omega arith; holds = refl }
 
 -- the place that the first frame's answer leads to
 behind_first : (f : First) → behind 0 (says_of 0 f) ≡ span f
@@ -137,7 +127,7 @@ first_read line before r after e t =
 
 -- ---- with room for any frame
 
-pub with_room : (line : List ℕ) (at : ℕ) (b : List ℕ) (r : Answer) (a : List ℕ) → octet_room ≤ length b → Reads line at b r a
+pub with_room : (line : List ℕ) (at : ℕ) (b : List ℕ) (r : Result FoundFrame ReadError) (a : List ℕ) → octet_room ≤ length b → Reads line at b r a
     → Tells at (first (drop at line)) b r a
 with_room line at b r a h p =
     let t = le-ltb (length b) octet_room h in

@@ -3,22 +3,29 @@
 use mathlib.Core.Path.{◌≡◌, refl, sym, ap, ◌∙◌}
 use mathlib.Core.Bool.{Bool, true, false, cond}
 use mathlib.Core.List.{List, [], ◌∷◌, ◌++◌, append-nil, append_assoc}
-use mathlib.Core.Logic.{inl, inr}
+use mathlib.Core.Logic.{◌⊎◌, inl, inr}
 use mathlib.Core.Option.{Option, none, some}
 use Prim.Native.Nat.{ℕ, ◌+◌, ◌*◌, ◌/◌, ◌%◌, ◌<◌, ◌≤◌}
 use native.Mathlib.Omega.{arith}
 use borrow.Author.Tests.{lt-ltb, le-ltb, eq-eqb, ne_eqb}
 use lib.ListN.{length, set, length-append}
 use lib.Seq.{sets}
-use Rattle.line.specs.declared.write.Written.{Written}
-use Rattle.line.specs.declared.write.Written.TheVariants.{Sent, SmallBuffer, UnknownKind, WrongLength}
+use Rattle.std.specs.Prelude.{Result, Ok, Err}
+use Rattle.std.specs.Int.{w32, to_le_bytes}
+use Rattle.line.specs.declared.kind.SopKind.{SopKind}
+use Rattle.line.specs.declared.kind.Kind.{Kind}
+use Rattle.line.specs.declared.kind.Kind.TheVariants.{Message, HardReset}
+use Rattle.line.specs.declared.write.WriteError.{WriteError}
+use Rattle.line.specs.declared.write.WriteError.TheVariants.{SmallBuffer, UnknownKind, WrongLength}
 use Rattle.line.specs.Symbol.{symbol_of, encoded, eop}
 use Rattle.line.specs.Kind.{kinds, set_of, sop_kinds, carries}
+use Rattle.line.specs.Numbered.{sop_number, kind_number}
 use Rattle.line.specs.Crc.{crc_of, four_octets, with_crc}
 use Rattle.line.specs.Frame.{Frame, message, alone, drawn, sealed, symbols_of}
 use Rattle.line.specs.Refusal.{first_no}
 use Rattle.line.specs.Write.{frame_room, wrong_length, written, writer_rows, sent, wrote, lent, Put, Writes}
 use Rattle.line.specs.Theorems.{FrameLengths}
+use Rattle.line.proofs.Numbers.{sop_below}
 use Rattle.line.proofs.Stores.{sets_append, sets_front}
 use Rattle.line.proofs.Nibbles.{length_encoded}
 use Rattle.line.proofs.Starts.{set_length}
@@ -64,26 +71,31 @@ pub frame_lengths : FrameLengths
 frame_lengths f (message h o lo hi) = let n = length_message f h in inr (omega arith, omega arith)
 frame_lengths f (alone h k e) = inl (length_alone f h k)
 
--- the runs of stores that put a message
-pub message_put : (f : Frame) (before s₁ s₂ s₃ tail : List ℕ) (c at end : ℕ) → f.kind < sop_kinds
-    → s₁ ≡ sets before 0 (set_of f.kind)
-    → (at ≡ 4 + 2 * length f.octets) × (s₂ ≡ sets s₁ 4 (encoded f.octets))
-    → c ≡ crc_of f.octets → tail ≡ four_octets c
-    → (end ≡ at + 2 * length tail) × (s₃ ≡ sets s₂ at (encoded tail))
-    → Put f before (end + 1) (set s₃ end eop)
+-- the octets of a CRC as they are sent
+le_octets : (n : ℕ) → to_le_bytes w32 n ≡ four_octets n
 unfolding four_octets
-message_put f before s₁ s₂ s₃ tail c at end h e₁ e₂ ec et e₃ =
+le_octets n = refl
+
+-- the runs of stores that put a message
+pub message_put : (f : Frame) (before s₁ s₂ s₃ tail : List ℕ) (c : ℕ) → f.kind < sop_kinds
+    → s₁ ≡ sets before 0 (set_of f.kind) → s₂ ≡ sets s₁ 4 (encoded f.octets)
+    → c ≡ crc_of f.octets → tail ≡ to_le_bytes w32 c
+    → s₃ ≡ sets s₂ (4 + 2 * length f.octets) (encoded tail)
+    → Put f before (4 + 2 * length f.octets + 8 + 1) (set s₃ (4 + 2 * length f.octets + 8) eop)
+unfolding four_octets
+message_put f before s₁ s₂ s₃ tail c h e₁ e₂ ec et e₃ =
     let k = f.kind in
     let l = f.octets in
-    let u : tail ≡ four_octets (crc_of l) = et ∙ ap four_octets ec in
+    let at = 4 + 2 * length l in
+    let u : tail ≡ four_octets (crc_of l) = et ∙ le_octets c ∙ ap four_octets ec in
     let t : length tail ≡ 4 = ap length u in
     let last = encoded tail ++ (eop ∷ []) in
     record {
       long = let n = length_message f h in omega arith;
       puts =
-          ap (λ (s : List ℕ). sets s end (eop ∷ [])) e₃.1
-          ∙ sets_append s₂ at (encoded tail) (eop ∷ []) end (let m = length_encoded tail in omega arith)
-          ∙ ap (λ (s : List ℕ). sets s at last) e₂.1
+          ap (λ (s : List ℕ). sets s (at + 8) (eop ∷ [])) e₃
+          ∙ sets_append s₂ at (encoded tail) (eop ∷ []) (at + 8) (let m = length_encoded tail in omega arith)
+          ∙ ap (λ (s : List ℕ). sets s at last) e₂
           ∙ sets_append s₁ 4 (encoded l) last at (let m = length_encoded l in omega arith)
           ∙ ap (λ (s : List ℕ). sets s 4 (encoded l ++ last)) e₁
           ∙ sets_append before 0 (set_of k) (encoded l ++ last) 4 (let m = set_length k (omega arith) in omega arith)
@@ -102,52 +114,61 @@ module _ (k n : ℕ) where
   unfolding wrong_length
   some_alone h e = simp (bare k h, ne_eqb n 0 e)
 
-  pub too_few : k < sop_kinds → n < 2 → wrong_length k n ≡ true
+  pub wrong_many : k < sop_kinds → (n < 2) ⊎ ((2 ≤ n) × (30 < n)) → wrong_length k n ≡ true
   unfolding wrong_length
-  too_few h e = simp (carrying k h, lt-ltb n 2 e)
-
-  pub too_many : k < sop_kinds → 2 ≤ n → 30 < n → wrong_length k n ≡ true
-  unfolding wrong_length
-  too_many h e g = simp (carrying k h, le-ltb n 2 e, lt-ltb 30 n g)
+  wrong_many h (inl e) = simp (carrying k h, lt-ltb n 2 e)
+  wrong_many h (inr e) = simp (carrying k h, le-ltb n 2 e.0, lt-ltb 30 n e.1)
 
   right_many : k < sop_kinds → 2 ≤ n → n ≤ 30 → wrong_length k n ≡ false
   unfolding wrong_length
   right_many h e g = simp (carrying k h, le-ltb n 2 e, le-ltb 30 n g)
 
+-- ---- the kind of a number
+
+module _ (k : Kind) (n : ℕ) (number : kind_number k ≡ n) where
+  pub sop_is : (s : SopKind) → k ≡ Message s → sop_number s ≡ n
+  sop_is s e = ap kind_number (sym e) ∙ number
+
+  pub carries_message : (s : SopKind) → k ≡ Message s → n < sop_kinds
+  carries_message s e = let q = sop_is s e in let b = sop_below s in omega arith
+
+  pub is_reset : k ≡ HardReset → (sop_kinds ≤ n) × (n < kinds)
+  is_reset e = let q : 5 ≡ n = ap kind_number (sym e) ∙ number in (omega arith, omega arith)
+
 -- ---- the ways out
 
 module _ (f : Frame) (before : List ℕ) where
-  by : (o : Option ℕ) (r : Written) (after : List ℕ) → first_no (writer_rows f (length before)) ≡ o
+  by : (o : Option ℕ) (r : Result ℕ WriteError) (after : List ℕ) → first_no (writer_rows f (length before)) ≡ o
       → written r ≡ wrote o f → after ≡ lent o f before → Writes f before r after
   by o r after e s t = record { says = rw e s; leaves = rw e t }
 
-  pub small : length before < frame_room → Writes f before SmallBuffer before
+  pub small : length before < frame_room → Writes f before (Err SmallBuffer) before
   unfolding first_no wrote lent
-  small h = by (some 12) SmallBuffer before (simp (lt-ltb (length before) frame_room h)) refl refl
+  small h = by (some 12) (Err SmallBuffer) before (simp (lt-ltb (length before) frame_room h)) refl refl
 
   module _ (room : frame_room ≤ length before) where
-    pub unknown : kinds ≤ f.kind → Writes f before UnknownKind before
+    pub unknown : kinds ≤ f.kind → Writes f before (Err UnknownKind) before
     unfolding first_no wrote lent
-    unknown h = by (some 11) UnknownKind before (simp (le-ltb (length before) frame_room room, le-ltb f.kind kinds h)) refl refl
+    unknown h = by (some 11) (Err UnknownKind) before (simp (le-ltb (length before) frame_room room, le-ltb f.kind kinds h)) refl refl
 
     module _ (known : f.kind < kinds) where
-      pub wrong : wrong_length f.kind (length f.octets) ≡ true → Writes f before WrongLength before
+      pub wrong : wrong_length f.kind (length f.octets) ≡ true → Writes f before (Err WrongLength) before
       unfolding first_no wrote lent
-      wrong e = by (some 9) WrongLength before (simp (le-ltb (length before) frame_room room, lt-ltb f.kind kinds known, e)) refl refl
+      wrong e = by (some 9) (Err WrongLength) before (simp (le-ltb (length before) frame_room room, lt-ltb f.kind kinds known, e)) refl refl
 
       taken : wrong_length f.kind (length f.octets) ≡ false → length (symbols_of f) ≤ frame_room
-          → (n : ℕ) (after : List ℕ) → Put f before n after → Writes f before (Sent n) after
+          → (n : ℕ) (after : List ℕ) → Put f before n after → Writes f before (Ok n) after
       unfolding first_no wrote lent
       taken e fits n after p =
-          by none (Sent n) after (simp (le-ltb (length before) frame_room room, lt-ltb f.kind kinds known, e)) (ap sent p.long)
+          by none (Ok n) after (simp (le-ltb (length before) frame_room room, lt-ltb f.kind kinds known, e)) (ap sent p.long)
           (p.puts ∙ sets_front (symbols_of f) before (omega arith))
 
       pub message_sent : f.kind < sop_kinds → 2 ≤ length f.octets → length f.octets ≤ 30
-          → (n : ℕ) (after : List ℕ) → Put f before n after → Writes f before (Sent n) after
+          → (n : ℕ) (after : List ℕ) → Put f before n after → Writes f before (Ok n) after
       message_sent h lo hi = taken (right_many f.kind (length f.octets) h lo hi) (let n = length_message f h in omega arith)
 
       pub alone_sent : sop_kinds ≤ f.kind → length f.octets ≡ 0
-          → (after : List ℕ) → after ≡ sets before 0 (set_of f.kind) → Writes f before (Sent 4) after
+          → (after : List ℕ) → after ≡ sets before 0 (set_of f.kind) → Writes f before (Ok 4) after
       alone_sent h e after q =
           let n = length_alone f h known in
           taken (none_alone f.kind (length f.octets) h e) (omega arith) 4 after

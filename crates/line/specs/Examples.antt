@@ -1,8 +1,9 @@
 -- Worked examples of the line code; proofs/Worked.antt computes them.
 -- Assumes nothing.
-use Rattle.std.specs.Prelude.{◌≡◌, List, [], ◌∷◌, ◌++◌, true, false, ℕ, ◌<◌, length, get_or, take, drop, replicate}
+use Rattle.std.specs.Prelude.{◌≡◌, List, [], ◌∷◌, ◌++◌, true, false, ℕ, ◌<◌, length, get_or, take, drop, replicate, Result}
 use Rattle.std.proofs.Math.Option.{some}
-use Rattle.line.specs.declared.read.Answer.{Answer}
+use Rattle.line.specs.declared.read.FoundFrame.{FoundFrame}
+use Rattle.line.specs.declared.read.ReadError.{ReadError}
 use Rattle.line.specs.Symbol.{eop, nibble_of}
 use Rattle.line.specs.Kind.{ordered_sets, set_of}
 use Rattle.line.specs.Crc.{crc_of}
@@ -50,7 +51,7 @@ pub record Examples : Type 0 where
   pub no_symbol : reading_of (started 1 ++ (32 ∷ [])) ≡ no_at 13 5
   pub wrong_crc : reading_of (started 12 ++ (eop ∷ [])) ≡ no_at 15 16
   pub room_72 : first_no (writer_rows tank 72) ≡ some 12
-  pub room_33 : (line after : List ℕ) (at : ℕ) (r : Answer) → Reads line at (replicate 33 0) r after → said r ≡ said_no 12
+  pub room_33 : (line after : List ℕ) (at : ℕ) (r : Result FoundFrame ReadError) → Reads line at (replicate 33 0) r after → said r ≡ said_no 12
   pub check_value : crc_of (0x31 ∷ 0x32 ∷ 0x33 ∷ 0x34 ∷ 0x35 ∷ 0x36 ∷ 0x37 ∷ 0x38 ∷ 0x39 ∷ []) ≡ 0xCBF4_3926
   pub tank_long : length (symbols_of tank) ≡ 25
   pub tank_set : take 4 (symbols_of tank) ≡ 0x18 ∷ 0x18 ∷ 0x18 ∷ 0x11 ∷ []

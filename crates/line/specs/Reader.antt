@@ -1,10 +1,12 @@
 -- The line reader: what it answers, what it leaves in the lent octets, and the rest of the record (01, 'Line reader', 'Numbers of no'; 02, A4).
 -- Assumes nothing.
-use Rattle.std.specs.Prelude.{◌≡◌, Bool, cond, List, ◌++◌, ℕ, ◌+◌, min, ltb, length, drop}
+use Rattle.std.specs.Prelude.{◌≡◌, Bool, cond, List, ◌++◌, ℕ, ◌+◌, min, ltb, length, drop, Result, Ok, Err}
 use Rattle.std.specs.Borrow.{Bor}
-use Rattle.line.specs.declared.read.Answer.{Answer}
-use Rattle.line.specs.declared.read.Answer.TheVariants.{Frame, SmallBuffer, NoFrame, TooShort, WrongCrc}
+use Rattle.line.specs.declared.read.FoundFrame.{FoundFrame}
+use Rattle.line.specs.declared.read.ReadError.{ReadError}
+use Rattle.line.specs.declared.read.ReadError.TheVariants.{SmallBuffer, NoFrame, TooShort, WrongCrc}
 use Rattle.line.specs.declared.read.FirstRead.{FirstRead}
+use Rattle.line.specs.Numbered.{kind_number}
 use Rattle.line.specs.Frame.{drawn}
 use Rattle.line.specs.Read.{First, frame, wrong_crc, too_short, no_frame, first}
 
@@ -18,12 +20,12 @@ pub data Said : Type 0 where
   said_no : ℕ → Said
   no_at : ℕ → ℕ → Said
 
-abbrev pub said : Answer → Said
-said (Frame k exact n c) = was_read k exact n c.at
-said SmallBuffer = said_no 12
-said (NoFrame p) = no_at 13 p
-said (TooShort p) = no_at 14 p
-said (WrongCrc p) = no_at 15 p
+abbrev pub said : Result FoundFrame ReadError → Said
+said (Ok f) = was_read (kind_number f.kind) f.exact f.count f.next.at
+said (Err SmallBuffer) = said_no 12
+said (Err (NoFrame p)) = no_at 13 p
+said (Err (TooShort p)) = no_at 14 p
+said (Err (WrongCrc p)) = no_at 15 p
 
 -- what it says of the record from `at` on
 unfoldable pub says_of : ℕ → First → Said
@@ -40,11 +42,11 @@ filled (too_short p) before = before
 filled (no_frame p) before = before
 
 -- the answer r and the octets left tell this of the record from `at` on
-pub record Tells (at : ℕ) (f : First) (before : List ℕ) (r : Answer) (after : List ℕ) : Type 0 where
+pub record Tells (at : ℕ) (f : First) (before : List ℕ) (r : Result FoundFrame ReadError) (after : List ℕ) : Type 0 where
   pub says : said r ≡ says_of at f
   pub leaves : after ≡ filled f before
 
-pub record Reads (line : List ℕ) (at : ℕ) (before : List ℕ) (r : Answer) (after : List ℕ) : Type 0 where
+pub record Reads (line : List ℕ) (at : ℕ) (before : List ℕ) (r : Result FoundFrame ReadError) (after : List ℕ) : Type 0 where
   pub says : said r ≡ cond (ltb (length before) octet_room) (said_no 12) (says_of at (first (drop at line)))
   pub leaves : after ≡ cond (ltb (length before) octet_room) before (filled (first (drop at line)) before)
 

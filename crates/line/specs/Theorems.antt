@@ -1,13 +1,13 @@
 -- What holds of the line code; proofs/ has the proof of each statement.
 -- Assumes nothing.
-use Rattle.std.specs.Prelude.{◌≡◌, Bool, List, [], ◌++◌, ◌↔◌, ◌⊎◌, ℕ, ◌<◌, ◌≤◌, length, take, drop, get_or, set}
+use Rattle.std.specs.Prelude.{◌≡◌, Bool, List, [], ◌++◌, ◌↔◌, ◌⊎◌, ℕ, ◌<◌, ◌≤◌, length, take, drop, get_or, set, Result, Ok}
 use Rattle.std.specs.Borrow.{Bor}
-use Rattle.line.specs.declared.write.Written.{Written}
-use Rattle.line.specs.declared.read.Answer.{Answer}
-use Rattle.line.specs.declared.read.Answer.TheVariants.{Frame as FrameRead}
-use Rattle.line.specs.declared.read.Cursor.{Cursor}
+use Rattle.line.specs.declared.write.WriteError.{WriteError}
+use Rattle.line.specs.declared.read.FoundFrame.{FoundFrame}
+use Rattle.line.specs.declared.read.ReadError.{ReadError}
 use Rattle.line.specs.declared.read.FirstRead.{FirstRead}
 use Rattle.line.specs.Kind.{kinds, set_of}
+use Rattle.line.specs.Numbered.{kind_number}
 use Rattle.line.specs.Crc.{IsCrc, SaysCrcRight}
 use Rattle.line.specs.Frame.{Frame, Whole, AllWhole, Shape, drawn, sealed, symbols_of, joined}
 use Rattle.line.specs.Write.{frame_room, written, Writes}
@@ -30,10 +30,10 @@ ReadsBack = (f : Frame) (x : List ℕ) → Whole f → first (symbols_of f ++ x)
 -- the symbols of the frame that the reader answered, and then the rest, are the record from the cursor on with the set that was taken
 abbrev pub LeavesRest : Type 0
 LeavesRest =
-    (line rest : Bor (List ℕ)) (at kind : ℕ) (exact : Bool) (count : ℕ) (next : Cursor) (before after : List ℕ)
-    → Reads line.now at before (FrameRead kind exact count next) after → IsTail line next.at rest
-    → TakenAs (drop at line.now) kind exact
-    × (drawn (record { kind = kind; octets = take count after }) ++ rest.now ≡ straight kind (drop at line.now))
+    (line rest : Bor (List ℕ)) (at : ℕ) (found : FoundFrame) (before after : List ℕ)
+    → Reads line.now at before (Ok found) after → IsTail line found.next.at rest
+    → TakenAs (drop at line.now) (kind_number found.kind) found.exact
+    × (drawn (record { kind = kind_number found.kind; octets = take found.count after }) ++ rest.now ≡ straight (kind_number found.kind) (drop at line.now))
 
 -- in one call, given room: the frame with its octets and CRC, and what follows it
 abbrev pub FirstReadBack : Type 0
@@ -109,10 +109,10 @@ abbrev pub OneTaken : Type 0
 OneTaken = (line : List ℕ) (j k : ℕ) (a b : Bool) → TakenAs line j a → TakenAs line k b → (j ≡ k) × (a ≡ b)
 
 abbrev pub OneMeaningWritten : Type 0
-OneMeaningWritten = (r s : Written) → written r ≡ written s → r ≡ s
+OneMeaningWritten = (r s : Result ℕ WriteError) → written r ≡ written s → r ≡ s
 
 abbrev pub OneMeaningSaid : Type 0
-OneMeaningSaid = (r s : Answer) → said r ≡ said s → r ≡ s
+OneMeaningSaid = (r s : Result FoundFrame ReadError) → said r ≡ said s → r ≡ s
 
 abbrev pub OneCrc : Type 0
 OneCrc = (l : List ℕ) (r s : ℕ) → IsCrc l r → IsCrc l s → r ≡ s
@@ -130,12 +130,12 @@ OneRest = (line : Bor (List ℕ)) (at : ℕ) (r s : Bor (List ℕ)) → IsTail l
 
 abbrev pub OneWriting : Type 0
 OneWriting =
-    (f : Frame) (before : List ℕ) (r s : Written) (a b : List ℕ)
+    (f : Frame) (before : List ℕ) (r s : Result ℕ WriteError) (a b : List ℕ)
     → Writes f before r a → Writes f before s b → (r ≡ s) × (a ≡ b)
 
 abbrev pub OneReading : Type 0
 OneReading =
-    (line : List ℕ) (at : ℕ) (before : List ℕ) (r s : Answer) (a b : List ℕ)
+    (line : List ℕ) (at : ℕ) (before : List ℕ) (r s : Result FoundFrame ReadError) (a b : List ℕ)
     → Reads line at before r a → Reads line at before s b → (r ≡ s) × (a ≡ b)
 
 abbrev pub OneFirstReading : Type 0

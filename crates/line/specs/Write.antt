@@ -1,10 +1,10 @@
 -- The line writer: what it answers and what it leaves in the lent symbols (01, 'Line writer', 'Numbers of no').
 -- Assumes nothing.
-use Rattle.std.specs.Prelude.{◌≡◌, Bool, not, cond, ◌||◌, List, [], ◌∷◌, ◌++◌, ℕ, ltb, eqb, length, drop}
+use Rattle.std.specs.Prelude.{◌≡◌, Bool, not, cond, ◌||◌, List, [], ◌∷◌, ◌++◌, ℕ, ltb, eqb, length, drop, Result, Ok, Err}
 use Rattle.std.proofs.Math.Option.{Option, none, some}
 use Rattle.std.proofs.lemmas.List.Edits.{sets}
-use Rattle.line.specs.declared.write.Written.{Written}
-use Rattle.line.specs.declared.write.Written.TheVariants.{Sent, SmallBuffer, UnknownKind, WrongLength}
+use Rattle.line.specs.declared.write.WriteError.{WriteError}
+use Rattle.line.specs.declared.write.WriteError.TheVariants.{SmallBuffer, UnknownKind, WrongLength}
 use Rattle.line.specs.Kind.{kinds, carries}
 use Rattle.line.specs.Frame.{Frame, symbols_of}
 use Rattle.line.specs.Refusal.{Row, first_no}
@@ -29,11 +29,11 @@ pub data Wrote : Type 0 where
   sent : ℕ → Wrote
   no : ℕ → Wrote
 
-abbrev pub written : Written → Wrote
-written (Sent n) = sent n
-written SmallBuffer = no 12
-written UnknownKind = no 11
-written WrongLength = no 9
+abbrev pub written : Result ℕ WriteError → Wrote
+written (Ok n) = sent n
+written (Err SmallBuffer) = no 12
+written (Err UnknownKind) = no 11
+written (Err WrongLength) = no 9
 
 -- the frame's length, or the number of no
 unfoldable pub wrote : Option ℕ → Frame → Wrote
@@ -50,6 +50,6 @@ pub record Put (f : Frame) (before : List ℕ) (r : ℕ) (after : List ℕ) : Ty
   pub long : r ≡ length (symbols_of f)
   pub puts : after ≡ sets before 0 (symbols_of f)
 
-pub record Writes (f : Frame) (before : List ℕ) (r : Written) (after : List ℕ) : Type 0 where
+pub record Writes (f : Frame) (before : List ℕ) (r : Result ℕ WriteError) (after : List ℕ) : Type 0 where
   pub says : written r ≡ wrote (first_no (writer_rows f (length before))) f
   pub leaves : after ≡ lent (first_no (writer_rows f (length before))) f before

@@ -4,6 +4,7 @@
 #![tactic(auto)]
 
 pub mod crc;
+pub mod kind;
 pub mod read;
 mod sets;
 mod symbols;

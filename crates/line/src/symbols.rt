@@ -1,10 +1,11 @@
 // The 4b5b symbols, in the order of PD's page (01, 'Line code (PD)').
-ghost use Rattle.std.specs.Prelude.{◌≡◌, ◌<◌};
-ghost use Rattle.line.specs.Symbol.{symbol_of, nibble_of};
+ghost use Rattle.std.specs.Prelude.{◌≡◌, ◌<◌, MatchOption};
+ghost use Rattle.line.specs.Symbol.{symbol_of, nibble_of, is_nibble};
 
 pub(crate) const EOP: u8 = 0x0D;
 
 // The symbol of a nibble.
+#[tactic(auto, unfolding(crate::specs::Symbol::symbol_of))]
 pub(crate) fn symbol(nibble: u8) -> u8
     requires { nibble < 16 }
     ensures { result ≡ symbol_of nibble }
@@ -29,44 +30,51 @@ pub(crate) fn symbol(nibble: u8) -> u8
     }
 }
 
-// The nibble of a symbol, and 16 for one that stands for none: the rows of PD's 4b5b page, in its order and notation (02, A3).
+// The nibble of a symbol, if it stands for one: the rows of PD's 4b5b page, in its order and notation (02, A3).
 #[tactic(auto, unfolding(crate::specs::Symbol::nibble_of, crate::specs::Symbol::place_of))]
-pub(crate) fn nibble(symbol: u8) -> u8
-    ensures { result ≡ nibble_of symbol }
+pub(crate) fn nibble(symbol: u8) -> Option<u8>
+    ensures { MatchOption result (nibble_of symbol ≡ 16) (λ n. (n < 16) × (n ≡ nibble_of symbol)) }
 {
     match symbol {
-        0b11110 => 0x0,
-        0b01001 => 0x1,
-        0b10100 => 0x2,
-        0b10101 => 0x3,
-        0b01010 => 0x4,
-        0b01011 => 0x5,
-        0b01110 => 0x6,
-        0b01111 => 0x7,
-        0b10010 => 0x8,
-        0b10011 => 0x9,
-        0b10110 => 0xA,
-        0b10111 => 0xB,
-        0b11010 => 0xC,
-        0b11011 => 0xD,
-        0b11100 => 0xE,
-        0b11101 => 0xF,
-        0b11000 => 16, // Sync-1
-        0b10001 => 16, // Sync-2
-        0b00111 => 16, // RST-1
-        0b11001 => 16, // RST-2
-        0b01101 => 16, // EOP
-        0b00000 => 16, // reserved
-        0b00001 => 16, // reserved
-        0b00010 => 16, // reserved
-        0b00011 => 16, // reserved
-        0b00100 => 16, // reserved
-        0b00101 => 16, // reserved
-        0b00110 => 16, // Sync-3
-        0b01000 => 16, // reserved
-        0b01100 => 16, // reserved
-        0b10000 => 16, // reserved
-        0b11111 => 16, // reserved
-        _ => 16, // no symbol
+        0b11110 => Some(0x0),
+        0b01001 => Some(0x1),
+        0b10100 => Some(0x2),
+        0b10101 => Some(0x3),
+        0b01010 => Some(0x4),
+        0b01011 => Some(0x5),
+        0b01110 => Some(0x6),
+        0b01111 => Some(0x7),
+        0b10010 => Some(0x8),
+        0b10011 => Some(0x9),
+        0b10110 => Some(0xA),
+        0b10111 => Some(0xB),
+        0b11010 => Some(0xC),
+        0b11011 => Some(0xD),
+        0b11100 => Some(0xE),
+        0b11101 => Some(0xF),
+        0b11000 => None, // Sync-1
+        0b10001 => None, // Sync-2
+        0b00111 => None, // RST-1
+        0b11001 => None, // RST-2
+        0b01101 => None, // EOP
+        0b00000 => None, // reserved
+        0b00001 => None, // reserved
+        0b00010 => None, // reserved
+        0b00011 => None, // reserved
+        0b00100 => None, // reserved
+        0b00101 => None, // reserved
+        0b00110 => None, // Sync-3
+        0b01000 => None, // reserved
+        0b01100 => None, // reserved
+        0b10000 => None, // reserved
+        0b11111 => None, // reserved
+        _ => None, // no symbol
     }
+}
+
+#[tactic(auto, unfolding(crate::specs::Symbol::is_nibble))]
+pub(crate) fn is_nibble(symbol: u8) -> bool
+    ensures { result ≡ is_nibble symbol }
+{
+    nibble(symbol).is_some()
 }

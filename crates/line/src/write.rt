@@ -2,76 +2,80 @@
 ghost use Rattle.std.specs.Prelude.{◌≡◌, ◌+◌, ◌*◌, ◌≤◌, ◌<◌, length};
 ghost use Rattle.std.proofs.lemmas.List.Edits.{sets};
 ghost use Rattle.line.specs.Symbol.{encoded};
-ghost use Rattle.line.specs.Kind.{sop_kinds};
+ghost use Rattle.line.specs.Numbered.{kind_number, sop_number};
+ghost use Rattle.line.specs.declared.write.WriteError.TheVariants.{UnknownKind};
 ghost use Rattle.line.specs.Write.{frame_room, Put, Writes};
 
-use crate::crc::{crc, four_octets};
-use crate::sets::{KINDS, SOP_KINDS, put_set};
+use crate::crc::crc;
+use crate::kind::{Kind, SopKind, UnknownKind};
+use crate::sets::put_set;
 use crate::symbols::{EOP, symbol};
 
-// What the writer answers: the number of symbols, or why there are none.
-#[derive(Clone, Copy)]
-pub enum Written {
-    Sent(usize),
+// Why there is no frame.
+#[derive(Clone, Copy, Debug, PartialEq, Eq)]
+pub enum WriteError {
     SmallBuffer,
     UnknownKind,
     WrongLength,
 }
 
+impl From<UnknownKind> for WriteError {
+    ghost from_gives = { λ _ error. error ≡ UnknownKind };
+
+    fn from(_: UnknownKind) -> Self {
+        WriteError::UnknownKind
+    }
+}
+
 const FRAME_ROOM: usize = 73;
 
-// Each octet as two symbols, low nibble first, from `at` on; the place after them.
-fn put_octets(octets: &[u8], symbols: &mut [u8], at: usize) -> usize
+// Each octet as two symbols, low nibble first, from `at` on.
+fn put_octets(octets: &[u8], symbols: &mut [u8], at: usize)
     requires { at + 2 * length octets.now ≤ length symbols.old }
-    ensures { (result ≡ at + 2 * length octets.now) × (symbols.new ≡ sets symbols.old at (encoded octets.now)) }
+    ensures { symbols.new ≡ sets symbols.old at (encoded octets.now) }
 {
-    let mut o = at;
-    let mut i = 0;
-    while i < octets.len() {
-        let b = octets[i];
-        symbols[o] = symbol(b & 15);
-        symbols[o + 1] = symbol(b >> 4);
-        o += 2;
-        i += 1;
+    // By the place: behind `chunks_exact_mut(2).zip(octets)` a proof knows how many symbols are lent, and none that is written.
+    for (i, b) in octets.iter().enumerate() {
+        symbols[at + 2 * i] = symbol(*b & 15);
+        symbols[at + 2 * i + 1] = symbol(*b >> 4);
     }
-    o
 }
 
 // The frame of a message, at the beginning of the lent symbols; its length.
-fn put_message(kind: u8, octets: &[u8], symbols: &mut [u8]) -> usize
-    requires { (kind < sop_kinds) × (length octets.now ≤ 30) × (frame_room ≤ length symbols.old) }
-    ensures { Put (record { kind = kind; octets = octets.now }) symbols.old result symbols.new }
+fn put_message(kind: SopKind, octets: &[u8], symbols: &mut [u8]) -> usize
+    requires { (length octets.now ≤ 30) × (frame_room ≤ length symbols.old) }
+    ensures { Put (record { kind = sop_number kind; octets = octets.now }) symbols.old result symbols.new }
 {
-    put_set(kind, symbols);
-    let at = put_octets(octets, symbols, 4);
-    let tail = four_octets(crc(octets));
-    let end = put_octets(&tail, symbols, at);
+    put_set(Kind::Message(kind), symbols);
+    put_octets(octets, symbols, 4);
+    let at = 4 + 2 * octets.len();
+    put_octets(&crc(octets).to_le_bytes(), symbols, at);
+    let end = at + 8;
     symbols[end] = EOP;
     end + 1
 }
 
-// Writes the frame of a kind and its octets to the beginning of `symbols`, and no more.
-pub fn write_frame(kind: u8, octets: &[u8], symbols: &mut [u8]) -> Written
+// Writes the frame of a kind, by its number, and its octets to the beginning of `symbols`, and no more; how many symbols. Any number is answered.
+pub fn write_frame(kind: u8, octets: &[u8], symbols: &mut [u8]) -> Result<usize, WriteError>
     ensures { Writes (record { kind = kind; octets = octets.now }) symbols.old result symbols.new }
 {
     if symbols.len() < FRAME_ROOM {
-        return Written::SmallBuffer;
+        return Err(WriteError::SmallBuffer);
     }
-    if KINDS <= kind {
-        return Written::UnknownKind;
-    }
-    if SOP_KINDS <= kind {
-        if octets.len() == 0 {
-            put_set(kind, symbols);
-            return Written::Sent(4);
+    let kind = Kind::try_from(kind)?;
+    match kind {
+        Kind::Message(sop) => {
+            if octets.len() < 2 || 30 < octets.len() {
+                return Err(WriteError::WrongLength);
+            }
+            Ok(put_message(sop, octets, symbols))
         }
-        return Written::WrongLength;
+        Kind::HardReset => {
+            if !octets.is_empty() {
+                return Err(WriteError::WrongLength);
+            }
+            put_set(kind, symbols);
+            Ok(4)
+        }
     }
-    if octets.len() < 2 {
-        return Written::WrongLength;
-    }
-    if 30 < octets.len() {
-        return Written::WrongLength;
-    }
-    Written::Sent(put_message(kind, octets, symbols))
 }

@@ -10,14 +10,14 @@ use lib.ListN.{length, take, drop, set, length-append, length-set}
 use lib.Seq.{sets, sets-eq, take_at, drop_at, length-take-le}
 use Rattle.line.specs.Read.{First, frame, wrong_crc, too_short, no_frame, first}
 use Rattle.text.proofs.Texts.{is_printed}
+use Rattle.std.specs.Prelude.{Option, Some, None}
 use Rattle.listing.specs.declared.form.Scan.{Scan}
-use Rattle.listing.specs.declared.form.Scan.TheVariants.{Begin, Digit, Symbol, Line, Space, Broken}
+use Rattle.listing.specs.declared.form.Scan.TheVariants.{Begin, Digit, Symbol, Line, Space}
 use Rattle.listing.specs.declared.Listing.{Listing}
-use Rattle.listing.specs.declared.Fed.{Fed}
 use Rattle.listing.specs.Lines.{frame_line_room}
 use Rattle.listing.specs.Scans.{form_after}
 use Rattle.listing.specs.Steps.{ListingState, empty_state, Step, goes, stops, on_symbol, step_to, character_step, end_text, then_all, printed_from}
-use Rattle.listing.specs.Promises.{window_room, state_of, listing_of, printed_by, fed_by, window_after}
+use Rattle.listing.specs.Promises.{Fed, window_room, state_of, listing_of, printed_by, fed_by, window_after}
 use Rattle.listing.specs.Calls.{text_between, CallsPrint, last, on, stop}
 use Rattle.listing.specs.Theorems.{ListsByCalls}
 use Rattle.listing.proofs.Goings.{one_more, bounds_may, took, finish_inside}
@@ -57,23 +57,23 @@ module _ (n : ℕ) (window : List ℕ) (few : n < length window) (p : ℕ) where
       ap (λ (k : ℕ). take k (set window n v)) long ∙ one_more n v window few
   kept_symbol v (no_frame q) = tt
 
-  kept : (to : Scan) → Kept (window_after to n window) (step_to to p (take n window))
+  kept : (to : Option Scan) → Kept (window_after to n window) (step_to to p (take n window))
   unfolding step_to window_after
-  kept Begin = same_symbols n window (omega arith)
-  kept (Digit a) = same_symbols n window (omega arith)
-  kept (Symbol v) = kept_symbol v (first (take n window ++ (v ∷ [])))
-  kept Line = same_symbols n window (omega arith)
-  kept Space = same_symbols n window (omega arith)
-  kept Broken = tt
+  kept (Some Begin) = same_symbols n window (omega arith)
+  kept (Some (Digit a)) = same_symbols n window (omega arith)
+  kept (Some (Symbol v)) = kept_symbol v (first (take n window ++ (v ∷ [])))
+  kept (Some Line) = same_symbols n window (omega arith)
+  kept (Some Space) = same_symbols n window (omega arith)
+  kept None = tt
 
-window_long : (to : Scan) (n : ℕ) (window : List ℕ) → length (window_after to n window) ≡ length window
+window_long : (to : Option Scan) (n : ℕ) (window : List ℕ) → length (window_after to n window) ≡ length window
 unfolding window_after
-window_long Begin n window = refl
-window_long (Digit a) n window = refl
-window_long (Symbol v) n window = length-set window n v
-window_long Line n window = refl
-window_long Space n window = refl
-window_long Broken n window = refl
+window_long (Some Begin) n window = refl
+window_long (Some (Digit a)) n window = refl
+window_long (Some (Symbol v)) n window = length-set window n v
+window_long (Some Line) n window = refl
+window_long (Some Space) n window = refl
+window_long None n window = refl
 
 -- ---- a call's part of what is printed, and the rest
 

@@ -6,8 +6,9 @@ use mathlib.Core.List.{List, [], ◌∷◌}
 use Prim.Native.Nat.{ℕ}
 use lib.Dec.{eqb}
 use Rattle.text.specs.Hex.{is_hex, octet_of}
+use Rattle.std.specs.Prelude.{Option, Some, None}
 use Rattle.listing.specs.declared.form.Scan.{Scan}
-use Rattle.listing.specs.declared.form.Scan.TheVariants.{Begin, Digit, Symbol, Line, Space, Broken}
+use Rattle.listing.specs.declared.form.Scan.TheVariants.{Begin, Digit, Symbol, Line, Space}
 use Rattle.listing.specs.Form.{ReadText, ended, broken, symbol_then, is_empty, gap_then, symbols_in, recorded}
 use Rattle.listing.specs.Scans.{first_digit, second_digit, gap, form_after, input_may_end}
 
@@ -33,7 +34,6 @@ to_come (Digit a) l = second a l
 to_come (Symbol v) l = behind l
 to_come Line l = recorded l
 to_come Space l = symbols_in l
-to_come Broken l = broken
 
 -- with the symbol that the text ends with now
 unfoldable pub with_last : Scan → ReadText → ReadText
@@ -42,7 +42,6 @@ with_last (Digit a) r = r
 with_last (Symbol v) r = ahead v r
 with_last Line r = r
 with_last Space r = r
-with_last Broken r = r
 
 -- ---- the input ends
 
@@ -53,7 +52,6 @@ come_end (Digit a) = refl
 come_end (Symbol v) = refl
 come_end Line = refl
 come_end Space = refl
-come_end Broken = refl
 
 -- ---- a character
 
@@ -77,14 +75,15 @@ symbols_digit a (b ∷ []) = symbol_digits a b ended
 symbols_digit a (b ∷ c ∷ l) = symbol_digits a b (gap_then c l (symbols_in l))
 
 -- the text goes on as after this character
-abbrev come : Scan → List ℕ → ReadText
-come s l = with_last s (to_come s l)
+abbrev pub come : Option Scan → List ℕ → ReadText
+come (Some s) l = with_last s (to_come s l)
+come None l = broken
 
 come_first : (c : ℕ) (l : List ℕ) → symbols_in (c ∷ l) ≡ come (first_digit c) l
 unfolding first_digit to_come with_last
 come_first c l = rw symbols_digit (go (is_hex c))
   where
-    go : (x : Bool) → cond x (second c l) broken ≡ come (cond x (Digit c) Broken) l
+    go : (x : Bool) → cond x (second c l) broken ≡ come (cond x (Some (Digit c)) None) l
     go true = refl
     go false = refl
 
@@ -92,7 +91,7 @@ come_second : (a c : ℕ) (l : List ℕ) → second a (c ∷ l) ≡ come (second
 unfolding second_digit to_come with_last second
 come_second a c l = go (is_hex c)
   where
-    go : (x : Bool) → cond x (ahead (octet_of a c) (behind l)) broken ≡ come (cond x (Symbol (octet_of a c)) Broken) l
+    go : (x : Bool) → cond x (ahead (octet_of a c) (behind l)) broken ≡ come (cond x (Some (Symbol (octet_of a c))) None) l
     go true = refl
     go false = refl
 
@@ -101,17 +100,16 @@ unfolding gap to_come with_last behind gap_then recorded
 come_gap c l = go (eqb c 0x0A) (eqb c 0x20) l
   where
     go : (x y : Bool) (l : List ℕ)
-        → cond (x && is_empty l) ended (cond (x || y) (symbols_in l) broken) ≡ come (cond x Line (cond y Space Broken)) l
+        → cond (x && is_empty l) ended (cond (x || y) (symbols_in l) broken) ≡ come (cond x (Some Line) (cond y (Some Space) None)) l
     go true y [] = refl
     go true y (c ∷ l) = refl
     go false true l = refl
     go false false l = refl
 
-pub come_on : (s : Scan) (c : ℕ) (l : List ℕ) → to_come s (c ∷ l) ≡ with_last (form_after s c) (to_come (form_after s c) l)
+pub come_on : (s : Scan) (c : ℕ) (l : List ℕ) → to_come s (c ∷ l) ≡ come (form_after s c) l
 unfolding to_come with_last form_after recorded
 come_on Begin c l = come_first c l
 come_on (Digit a) c l = come_second a c l
 come_on (Symbol v) c l = come_gap c l
 come_on Line c l = come_first c l
 come_on Space c l = come_first c l
-come_on Broken c l = refl

@@ -1,29 +1,29 @@
 -- Each way that a step can go, from what its function did.
 -- Assumes nothing.
-use mathlib.Core.Path.{◌≡◌, refl, sym, ap, ◌∙◌, subst}
+use mathlib.Core.Path.{◌≡◌, refl, sym, ap, subst}
 use mathlib.Core.Bool.{Bool, true, false}
 use mathlib.Core.List.{List, [], ◌∷◌, ◌++◌}
-use Prim.Native.Nat.{ℕ, zero, suc, ◌+◌, ◌-◌, ◌<◌, ◌≤◌, ◌^◌}
+use Prim.Native.Nat.{ℕ, zero, suc, ◌+◌, ◌<◌, ◌≤◌, ◌^◌}
 use native.Mathlib.Omega.{arith}
 use native.Mathlib.Nat.{add-zero}
 use native.Mathlib.Numerals.{add-one}
-use borrow.Author.Tests.{leb-true, ltb-true, ltb-false, lt-ltb, le-ltb}
+use borrow.Author.Tests.{leb-true, ltb-true, lt-ltb}
 use lib.Dec.{ltb}
 use lib.ListN.{length, take, set, length-append}
 use lib.Seq.{take-suc-set, length-take-le}
 use Rattle.line.specs.Read.{ReadFrame, First, frame, wrong_crc, too_short, no_frame, first}
 use Rattle.text.specs.Put.{has_room, Puts}
-use Rattle.text.proofs.Chars.{and_left, and_right}
-use Rattle.text.proofs.Texts.{nothing, ends_inside}
+use Rattle.std.proofs.lemmas.Bool.{and_parts}
+use Rattle.text.proofs.Texts.{ends_inside}
+use Rattle.std.specs.Prelude.{Option, Some, None}
 use Rattle.listing.specs.declared.form.Scan.{Scan}
-use Rattle.listing.specs.declared.form.Scan.TheVariants.{Begin, Digit, Symbol, Line, Space, Broken}
+use Rattle.listing.specs.declared.form.Scan.TheVariants.{Begin, Digit, Symbol, Line, Space}
 use Rattle.listing.specs.declared.Listing.{Listing}
-use Rattle.listing.specs.declared.Fed.{Fed}
 use Rattle.listing.specs.Lines.{frame_text, no_text, bad_octet_text, frame_line_room}
 use Rattle.listing.specs.Listed.{short_text}
 use Rattle.listing.specs.Scans.{form_after, input_may_end}
 use Rattle.listing.specs.Steps.{goes, stops, on_symbol, step_to, end_text}
-use Rattle.listing.specs.Promises.{window_room, Bounded, in_bounds, may_print, stopped, printed_by, fed_by, window_after, Goes, TakesCharacter, Feeds, Finishes}
+use Rattle.listing.specs.Promises.{Fed, window_room, Bounded, in_bounds, may_print, stopped, printed_by, fed_by, window_after, Goes, TakesCharacter, Feeds, Finishes}
 use Rattle.listing.proofs.Places.{short_few}
 use Rattle.listing.proofs.Texts.{frame_short, no_short, bad_short}
 
@@ -49,12 +49,12 @@ module _ (l : Listing) (window out : List ℕ) (at : ℕ) (right : Bounded l) (l
     pub all_long : length all ≡ l.count + 1
     all_long = omega (arith, length-append (take l.count window) (v ∷ []), length-take-le l.count window (omega (arith, right.few)))
 
-    by_first : (f : First) → first all ≡ f → step_to (Symbol v) l.before (take l.count window) ≡ on_symbol (Symbol v) l.before all f
+    by_first : (f : First) → first all ≡ f → step_to (Some (Symbol v)) l.before (take l.count window) ≡ on_symbol (Symbol v) l.before all f
     unfolding step_to
     by_first f e = ap (on_symbol (Symbol v) l.before all) e
 
     pub goes_frame : (r : ReadFrame) (e : ℕ) (out' : List ℕ) → first all ≡ frame r → length r.shape.octets ≤ 34 → Puts out at (frame_text l.before r) e out'
-        → Goes l (Symbol v) window out at (record { listing = record { scan = Symbol v; before = l.before + l.count + 1; count = 0 }; ends = false; at = e }) (set window l.count v) out'
+        → Goes l (Some (Symbol v)) window out at (record { listing = record { scan = Symbol v; before = l.before + l.count + 1; count = 0 }; ends = false; at = e }) (set window l.count v) out'
     unfolding on_symbol fed_by printed_by window_after
     goes_frame r e out' is few p =
         let place : l.before + length all ≡ l.before + l.count + 1 = omega (arith, all_long) in
@@ -68,7 +68,7 @@ module _ (l : Listing) (window out : List ℕ) (at : ℕ) (right : Bounded l) (l
         }
 
     pub goes_short : (q : ℕ) → first all ≡ too_short q
-        → Goes l (Symbol v) window out at (record { listing = record { scan = Symbol v; before = l.before; count = l.count + 1 }; ends = false; at = at }) (set window l.count v) out
+        → Goes l (Some (Symbol v)) window out at (record { listing = record { scan = Symbol v; before = l.before; count = l.count + 1 }; ends = false; at = at }) (set window l.count v) out
     unfolding on_symbol fed_by printed_by window_after
     goes_short q is =
         let few = short_few all q is in
@@ -81,8 +81,8 @@ module _ (l : Listing) (window out : List ℕ) (at : ℕ) (right : Bounded l) (l
           counts = omega arith;
         }
 
-    stops_with : (t : List ℕ) (e : ℕ) (out' : List ℕ) → step_to (Symbol v) l.before (take l.count window) ≡ stops t → length t ≤ frame_line_room → Puts out at t e out'
-        → Goes l (Symbol v) window out at (stopped l e) (set window l.count v) out'
+    stops_with : (t : List ℕ) (e : ℕ) (out' : List ℕ) → step_to (Some (Symbol v)) l.before (take l.count window) ≡ stops t → length t ≤ frame_line_room → Puts out at t e out'
+        → Goes l (Some (Symbol v)) window out at (stopped l e) (set window l.count v) out'
     unfolding fed_by printed_by window_after
     stops_with t e out' is few p =
         record {
@@ -95,19 +95,19 @@ module _ (l : Listing) (window out : List ℕ) (at : ℕ) (right : Bounded l) (l
         }
 
     pub goes_none : (q e : ℕ) (out' : List ℕ) → first all ≡ no_frame q → Puts out at (no_text 13 (l.before + q)) e out'
-        → Goes l (Symbol v) window out at (stopped l e) (set window l.count v) out'
+        → Goes l (Some (Symbol v)) window out at (stopped l e) (set window l.count v) out'
     unfolding on_symbol
     goes_none q e out' is p = stops_with (no_text 13 (l.before + q)) e out' (by_first (no_frame q) is) (no_short 13 (l.before + q)) p
 
     pub goes_wrong : (q e : ℕ) (out' : List ℕ) → first all ≡ wrong_crc q → Puts out at (no_text 15 (l.before + q)) e out'
-        → Goes l (Symbol v) window out at (stopped l e) (set window l.count v) out'
+        → Goes l (Some (Symbol v)) window out at (stopped l e) (set window l.count v) out'
     unfolding on_symbol
     goes_wrong q e out' is p = stops_with (no_text 15 (l.before + q)) e out' (by_first (wrong_crc q) is) (no_short 15 (l.before + q)) p
 
   -- ---- any other form of the text
 
   pub goes_broken : (e : ℕ) (out' : List ℕ) → Puts out at (bad_octet_text (l.before + l.count + 1)) e out'
-      → Goes l Broken window out at (stopped l e) window out'
+      → Goes l None window out at (stopped l e) window out'
   unfolding step_to fed_by printed_by window_after
   goes_broken e out' p =
       let n : length (take l.count window) ≡ l.count = length-take-le l.count window (omega (arith, right.few)) in
@@ -120,9 +120,9 @@ module _ (l : Listing) (window out : List ℕ) (at : ℕ) (right : Bounded l) (l
         counts = omega arith;
       }
 
-  on : (to : Scan) → step_to to l.before (take l.count window) ≡ goes [] (record { scan = to; before = l.before; symbols = take l.count window })
-      → window_after to l.count window ≡ window
-      → Goes l to window out at (record { listing = record { scan = to; before = l.before; count = l.count }; ends = false; at = at }) window out
+  on : (to : Scan) → step_to (Some to) l.before (take l.count window) ≡ goes [] (record { scan = to; before = l.before; symbols = take l.count window })
+      → window_after (Some to) l.count window ≡ window
+      → Goes l (Some to) window out at (record { listing = record { scan = to; before = l.before; count = l.count }; ends = false; at = at }) window out
   unfolding fed_by printed_by
   on to is same =
       let n : length (take l.count window) ≡ l.count = length-take-le l.count window (omega (arith, right.few)) in
@@ -135,55 +135,35 @@ module _ (l : Listing) (window out : List ℕ) (at : ℕ) (right : Bounded l) (l
         counts = omega arith;
       }
 
-  -- neither a symbol nor broken
-  pub goes_on : (to : Scan) → ((v : ℕ) → to ≡ Symbol v → ⊥) → (to ≡ Broken → ⊥)
-      → Goes l to window out at (record { listing = record { scan = to; before = l.before; count = l.count }; ends = false; at = at }) window out
+  -- no symbol
+  pub goes_on : (to : Scan) → ((v : ℕ) → to ≡ Symbol v → ⊥)
+      → Goes l (Some to) window out at (record { listing = record { scan = to; before = l.before; count = l.count }; ends = false; at = at }) window out
   unfolding step_to window_after
-  goes_on Begin s b = on Begin refl refl
-  goes_on (Digit a) s b = on (Digit a) refl refl
-  goes_on (Symbol v) s b = absurd (s v refl)
-  goes_on Line s b = on Line refl refl
-  goes_on Space s b = on Space refl refl
-  goes_on Broken s b = absurd (b refl)
+  goes_on Begin s = on Begin refl refl
+  goes_on (Digit a) s = on (Digit a) refl refl
+  goes_on (Symbol v) s = absurd (s v refl)
+  goes_on Line s = on Line refl refl
+  goes_on Space s = on Space refl refl
 
 -- ---- the same step by another name, and the same outcome
 
-pub goes_to : {l : Listing} {to s : Scan} {window out window' out' : List ℕ} {at : ℕ} {r : Fed} → to ≡ s → Goes l s window out at r window' out' → Goes l to window out at r window' out'
-goes_to {l} {to} {s} {window} {out} {window'} {out'} {at} {r} e g = subst (λ (x : Scan). Goes l x window out at r window' out') (sym e) g
+pub goes_to : {l : Listing} {to s : Option Scan} {window out window' out' : List ℕ} {at : ℕ} {r : Fed} → to ≡ s → Goes l s window out at r window' out' → Goes l to window out at r window' out'
+goes_to {l} {to} {s} {window} {out} {window'} {out'} {at} {r} e g = subst (λ (x : Option Scan). Goes l x window out at r window' out') (sym e) g
 
-pub gives : {l : Listing} {to : Scan} {window out window' out' : List ℕ} {at : ℕ} {r s : Fed} → r ≡ s → Goes l to window out at s window' out' → Goes l to window out at r window' out'
+pub gives : {l : Listing} {to : Option Scan} {window out window' out' : List ℕ} {at : ℕ} {r s : Fed} → r ≡ s → Goes l to window out at s window' out' → Goes l to window out at r window' out'
 gives {l} {to} {window} {out} {window'} {out'} {at} {r} {s} e g = subst (λ (x : Fed). Goes l to window out at x window' out') (sym e) g
 
--- ---- a character, with room and without
-
-pub takes_it : {x : Bool} (l : Listing) (c : ℕ) (to : Scan) {window out window' out' : List ℕ} {at : ℕ} {r : Fed} → x ≡ true → to ≡ form_after l.scan c
-    → Goes l to window out at r window' out' → TakesCharacter x l c window out at r window' out'
-unfolding TakesCharacter
-takes_it l c to {window} {out} {window'} {out'} {at} {r} e t g = rw e (subst (λ (s : Scan). Goes l s window out at r window' out') t g)
-
-pub takes_none : {x : Bool} (l : Listing) (c : ℕ) (window out : List ℕ) (at : ℕ) (r : Fed) → x ≡ false → r ≡ stopped l at → TakesCharacter x l c window out at r window out
-unfolding TakesCharacter
-takes_none l c window out at r e is = rw e (is, refl, refl)
-
--- the code's test of bounds, which no sum can overflow
-pub count_test : (p n : ℕ) → n < window_room → ltb p (18446744073709551615 - n) ≡ ltb (p + n + 1) (2 ^ 64)
-count_test p n h = go (ltb p (18446744073709551615 - n)) refl
-  where
-    go : (t : Bool) → ltb p (18446744073709551615 - n) ≡ t → ltb p (18446744073709551615 - n) ≡ ltb (p + n + 1) (2 ^ 64)
-    go true e = e ∙ sym (lt-ltb (p + n + 1) (2 ^ 64) (omega (arith, ltb-true p (18446744073709551615 - n) e)))
-    go false e = e ∙ sym (le-ltb (p + n + 1) (2 ^ 64) (omega (arith, ltb-false p (18446744073709551615 - n) e)))
+-- ---- a character, with room
 
 -- a listing that may print is in bounds, and has room
 module _ (l : Listing) (out : List ℕ) (at : ℕ) where
   pub may_bounds : may_print l out at ≡ true → Bounded l
   may_bounds e =
-      let b = and_left (in_bounds l) (has_room frame_line_room out at) e in
-      let few = ltb l.count window_room in
-      let fits = ltb (l.before + l.count + 1) (2 ^ 64) in
-      record { few = ltb-true l.count window_room (and_left few fits b); fits = ltb-true (l.before + l.count + 1) (2 ^ 64) (and_right few fits b) }
+      let b = and_parts (ltb l.count window_room) (ltb (l.before + l.count + 1) (2 ^ 64)) (and_parts (in_bounds l) (has_room frame_line_room out at) e).0 in
+      record { few = ltb-true l.count window_room b.0; fits = ltb-true (l.before + l.count + 1) (2 ^ 64) b.1 }
 
   pub may_room : may_print l out at ≡ true → has_room frame_line_room out at ≡ true
-  may_room e = and_right (in_bounds l) (has_room frame_line_room out at) e
+  may_room e = (and_parts (in_bounds l) (has_room frame_line_room out at) e).1
 
   pub bounds_may : Bounded l → has_room frame_line_room out at ≡ true → may_print l out at ≡ true
   bounds_may b h = simp (lt-ltb l.count window_room b.few, lt-ltb (l.before + l.count + 1) (2 ^ 64) b.fits, h)
@@ -204,19 +184,6 @@ feed_inside l c window out at r window' out' h = go (may_print l out at)
     go false g = rw g.0 h
 
 -- ---- the end of the input
-
-pub ends_whole : {b : List ℕ} {at : ℕ} (s : Scan) (p n : ℕ) → input_may_end s ≡ true → n ≡ 0 → Puts b at (end_text s p n) at b
-unfolding end_text short_text
-ends_whole s p n e z = rw (e, z) (nothing _ _)
-
-pub ends_short : {b a : List ℕ} {at r : ℕ} (s : Scan) (p n : ℕ) → input_may_end s ≡ true → (n ≡ 0 → ⊥) → Puts b at (no_text 14 (p + n)) r a → Puts b at (end_text s p n) r a
-unfolding end_text short_text
-ends_short s p zero e z x = absurd (z refl)
-ends_short s p (suc n) e z x = rw e x
-
-pub ends_broken : {b a : List ℕ} {at r : ℕ} (s : Scan) (p n : ℕ) → input_may_end s ≡ false → Puts b at (bad_octet_text (p + n + 1)) r a → Puts b at (end_text s p n) r a
-unfolding end_text short_text
-ends_broken s p n e x = rw e x
 
 end_short : (b : Bool) (p n : ℕ) → length (short_text b p n) ≤ frame_line_room
 unfolding short_text

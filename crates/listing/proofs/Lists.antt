@@ -11,15 +11,16 @@ use Rattle.line.specs.Frame.{drawn}
 use Rattle.line.specs.Read.{set_at, ReadFrame, First, frame, wrong_crc, too_short, no_frame, after_set, first}
 use Rattle.reader.specs.Walk.{Walked, ends, before, walk, drawn_all, read_exact}
 use Rattle.reader.proofs.Walking.{walks_frames}
+use Rattle.std.specs.Prelude.{Option, Some, None}
 use Rattle.listing.specs.declared.form.Scan.{Scan}
-use Rattle.listing.specs.declared.form.Scan.TheVariants.{Begin, Digit, Symbol, Line, Space, Broken}
+use Rattle.listing.specs.declared.form.Scan.TheVariants.{Begin, Digit, Symbol, Line, Space}
 use Rattle.listing.specs.Form.{ReadText, broken}
 use Rattle.listing.specs.Lines.{frame_text, no_text, bad_octet_text}
 use Rattle.listing.specs.Listed.{frames_text, short_text, last_text, walk_text, listed}
 use Rattle.listing.specs.Scans.{form_after, input_may_end}
 use Rattle.listing.specs.Steps.{ListingState, Step, empty_state, on_symbol, step_to, character_step, end_text, then_all, printed_from}
 use Rattle.listing.specs.Theorems.{ShowsFrames, ListsAll}
-use Rattle.listing.proofs.Forms.{to_come, with_last, come_end, come_on}
+use Rattle.listing.proofs.Forms.{to_come, with_last, come_end, come_on, come}
 use Rattle.listing.proofs.Walks.{frame_all, walk_frame, walk_wrong, walk_none, walk_short}
 
 -- ---- the text of a walk
@@ -122,14 +123,14 @@ module _ (input : List ℕ) (rest : Lists input) (p : ℕ) (w : List ℕ) (q : �
     by_symbol (too_short n) f = rest (record { scan = Symbol v; before = p; symbols = known }) n f
     by_symbol (wrong_crc n) f = sym (told_wrong p known coming n f)
 
-  on_char : (t : Scan) → all (step_to t p w) ≡ told p w (with_last t (to_come t input))
+  on_char : (t : Option Scan) → all (step_to t p w) ≡ told p w (come t input)
   unfolding all then_all step_to with_last to_come
-  on_char Begin = goes_on Begin
-  on_char (Digit a) = goes_on (Digit a)
-  on_char (Symbol v) = by_symbol v (first (w ++ (v ∷ []))) refl ∙ told_last p w v (to_come (Symbol v) input)
-  on_char Line = goes_on Line
-  on_char Space = goes_on Space
-  on_char Broken = sym (told_broken p w q e)
+  on_char (Some Begin) = goes_on Begin
+  on_char (Some (Digit a)) = goes_on (Digit a)
+  on_char (Some (Symbol v)) = by_symbol v (first (w ++ (v ∷ []))) refl ∙ told_last p w v (to_come (Symbol v) input)
+  on_char (Some Line) = goes_on Line
+  on_char (Some Space) = goes_on Space
+  on_char None = sym (told_broken p w q e)
 
 lists : (input : List ℕ) → Lists input
 unfolding printed_from end_text character_step all

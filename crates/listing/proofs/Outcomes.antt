@@ -6,8 +6,7 @@ use mathlib.Core.List.{List}
 use Prim.Native.Nat.{ℕ}
 use Rattle.text.proofs.Outcomes.{one_printing}
 use Rattle.listing.specs.declared.Listing.{Listing}
-use Rattle.listing.specs.declared.Fed.{Fed}
-use Rattle.listing.specs.Promises.{may_print, TakesCharacter}
+use Rattle.listing.specs.Promises.{Fed, may_print, TakesCharacter}
 use Rattle.listing.specs.Theorems.{OneBegin, OneFeed, OneFinish}
 
 pub one_begin : OneBegin

@@ -6,9 +6,8 @@ use mathlib.Core.List.{List}
 use Prim.Native.Nat.{ℕ}
 use native.Mathlib.Omega.{arith}
 use Rattle.listing.specs.declared.Listing.{Listing}
-use Rattle.listing.specs.declared.Fed.{Fed}
 use Rattle.listing.specs.Steps.{empty_state}
-use Rattle.listing.specs.Promises.{Right, may_print, BeginsListing, TakesCharacter, Feeds}
+use Rattle.listing.specs.Promises.{Fed, Right, may_print, BeginsListing, TakesCharacter, Feeds}
 use Rattle.listing.specs.Theorems.{StaysRight}
 use Rattle.listing.proofs.Goings.{may_bounds}
 

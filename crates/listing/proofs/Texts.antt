@@ -1,15 +1,17 @@
 -- The lines stand whole, and are no longer than their room.
 -- Assumes nothing.
-use mathlib.Core.Path.{◌≡◌}
-use mathlib.Core.Bool.{Bool, true, false, cond}
+use mathlib.Core.Bool.{Bool, true, false}
 use mathlib.Core.List.{List, [], ◌∷◌, ◌++◌}
 use Prim.Native.Nat.{ℕ, ◌+◌, ◌≤◌}
 use native.Mathlib.Omega.{arith}
 use lib.ListN.{length, length-append}
 use Rattle.line.specs.Read.{ReadFrame}
 use Rattle.text.specs.Ascii.{text}
-use Rattle.text.specs.Put.{decimal_of, octets_text, has_room, Puts, Prints}
-use Rattle.text.proofs.Texts.{nothing, then, same, few, octets_long, roomed}
+use Rattle.text.specs.Put.{decimal_of, octets_text, has_room}
+use Rattle.text.specs.Page.{PutsOn, PrintsOn}
+use Rattle.text.specs.declared.page.Page.{Page}
+use Rattle.text.proofs.Texts.{same, few, octets_long}
+use Rattle.text.proofs.Pages.{then_on, roomed_on}
 use Rattle.listing.specs.Lines.{place_text, mark_text, frame_text, no_text, bad_octet_text, frame_line_room}
 
 -- ---- whole, with room for any line
@@ -19,55 +21,48 @@ unfolding mark_text
 mark_few true = omega arith
 mark_few false = omega arith
 
-pub frame_line : {b m l k n j a : List ℕ} {at d e f i g h : ℕ} (p kind : ℕ) (exact : Bool) (octets : List ℕ) → length octets ≤ 34 → at + frame_line_room ≤ length b
-    → Prints (has_room 20 b at) b at (decimal_of 20 p) d m → Prints (has_room 1 m d) m d (0x20 ∷ []) e l → Prints (has_room 1 l e) l e (decimal_of 1 kind) f k
-    → Prints (has_room 1 k f) k f (mark_text exact) i n → Prints (has_room (length (octets_text octets)) n i) n i (octets_text octets) g j → Prints (has_room 1 j g) j g (0x0A ∷ []) h a
-    → Puts b at (frame_text p (record { shape = record { kind = kind; octets = octets }; exact = exact })) h a
+-- a text where there is room for so many
+abbrev Asks_for : ℕ → Page → List ℕ → Page → Type 0
+Asks_for need p t q = PrintsOn (has_room need p.octets.now p.at) p t q
+
+-- room for any line
+abbrev Room : Page → Type 0
+Room p = p.at + frame_line_room ≤ length p.octets.now
+
+pub frame_line : {p m l k n j q : Page} (place kind : ℕ) (exact : Bool) (octets : List ℕ) → length octets ≤ 34 → Room p
+    → Asks_for 20 p (decimal_of 20 place) m → Asks_for 1 m (0x20 ∷ []) l → Asks_for 1 l (decimal_of 1 kind) k → Asks_for 1 k (mark_text exact) n
+    → Asks_for (length (octets_text octets)) n (octets_text octets) j → Asks_for 1 j (0x0A ∷ []) q
+    → PutsOn p (frame_text place (record { shape = record { kind = kind; octets = octets }; exact = exact })) q
 unfolding frame_text place_text
-frame_line p kind exact octets n room x y z t u v =
-    let place = roomed 20 (omega arith) x in
-    let space = roomed 1 (omega (arith, place.next, same place, few 20 p)) y in
-    let said = roomed 1 (omega (arith, place.next, same place, few 20 p, space.next, same space)) z in
-    let mark = roomed 1 (omega (arith, place.next, same place, few 20 p, space.next, same space, said.next, same said, few 1 kind)) t in
-    let row = roomed (length (octets_text octets)) (omega (arith, place.next, same place, few 20 p, space.next, same space, said.next, same said, few 1 kind, mark.next, same mark, mark_few exact, octets_long 33 octets n)) u in
-    let end = roomed 1 (omega (arith, place.next, same place, few 20 p, space.next, same space, said.next, same said, few 1 kind, mark.next, same mark, mark_few exact, octets_long 33 octets n, row.next, same row)) v in
-    then place (then space (then said (then mark (then row end))))
+frame_line place kind exact octets few_octets room x y z t u v =
+    let at = roomed_on 20 (omega arith) x in
+    let space = roomed_on 1 (omega (arith, at.puts.next, same at.puts, few 20 place)) y in
+    let said = roomed_on 1 (omega (arith, at.puts.next, same at.puts, few 20 place, space.puts.next, same space.puts)) z in
+    let mark = roomed_on 1 (omega (arith, at.puts.next, same at.puts, few 20 place, space.puts.next, same space.puts, said.puts.next, same said.puts, few 1 kind)) t in
+    let row = roomed_on (length (octets_text octets)) (omega (arith, at.puts.next, same at.puts, few 20 place, space.puts.next, same space.puts, said.puts.next, same said.puts, few 1 kind, mark.puts.next, same mark.puts, mark_few exact, octets_long 33 octets few_octets)) u in
+    let end = roomed_on 1 (omega (arith, at.puts.next, same at.puts, few 20 place, space.puts.next, same space.puts, said.puts.next, same said.puts, few 1 kind, mark.puts.next, same mark.puts, mark_few exact, octets_long 33 octets few_octets, row.puts.next, same row.puts)) v in
+    then_on at (then_on space (then_on said (then_on mark (then_on row end))))
 
-pub no_line : {b m l k j a : List ℕ} {at d e f g h : ℕ} (n p : ℕ) → at + frame_line_room ≤ length b
-    → Prints (has_room 2 b at) b at (text "no") d m → Prints (has_room 2 m d) m d (decimal_of 2 n) e l → Prints (has_room 1 l e) l e (0x20 ∷ []) f k
-    → Prints (has_room 20 k f) k f (decimal_of 20 p) g j → Prints (has_room 1 j g) j g (0x0A ∷ []) h a → Puts b at (no_text n p) h a
+pub no_line : {p m l k j q : Page} (n place : ℕ) → Room p
+    → Asks_for 2 p (text "no") m → Asks_for 2 m (decimal_of 2 n) l → Asks_for 1 l (0x20 ∷ []) k → Asks_for 20 k (decimal_of 20 place) j → Asks_for 1 j (0x0A ∷ []) q
+    → PutsOn p (no_text n place) q
 unfolding no_text place_text
-no_line n p room x y z u v =
-    let word = roomed 2 (omega arith) x in
-    let number = roomed 2 (omega (arith, word.next, same word)) y in
-    let space = roomed 1 (omega (arith, word.next, same word, number.next, same number, few 2 n)) z in
-    let place = roomed 20 (omega (arith, word.next, same word, number.next, same number, few 2 n, space.next, same space)) u in
-    let end = roomed 1 (omega (arith, word.next, same word, number.next, same number, few 2 n, space.next, same space, place.next, same place, few 20 p)) v in
-    then word (then number (then space (then place end)))
+no_line n place room x y z u v =
+    let word = roomed_on 2 (omega arith) x in
+    let number = roomed_on 2 (omega (arith, word.puts.next, same word.puts)) y in
+    let space = roomed_on 1 (omega (arith, word.puts.next, same word.puts, number.puts.next, same number.puts, few 2 n)) z in
+    let at = roomed_on 20 (omega (arith, word.puts.next, same word.puts, number.puts.next, same number.puts, few 2 n, space.puts.next, same space.puts)) u in
+    let end = roomed_on 1 (omega (arith, word.puts.next, same word.puts, number.puts.next, same number.puts, few 2 n, space.puts.next, same space.puts, at.puts.next, same at.puts, few 20 place)) v in
+    then_on word (then_on number (then_on space (then_on at end)))
 
-pub bad_line : {b m l a : List ℕ} {at d e f : ℕ} (n : ℕ) → at + frame_line_room ≤ length b
-    → Prints (has_room 10 b at) b at (text "bad octet ") d m → Prints (has_room 20 m d) m d (decimal_of 20 n) e l → Prints (has_room 1 l e) l e (0x0A ∷ []) f a
-    → Puts b at (bad_octet_text n) f a
+pub bad_line : {p m l q : Page} (n : ℕ) → Room p
+    → Asks_for 10 p (text "bad octet ") m → Asks_for 20 m (decimal_of 20 n) l → Asks_for 1 l (0x0A ∷ []) q → PutsOn p (bad_octet_text n) q
 unfolding bad_octet_text place_text
 bad_line n room x y z =
-    let word = roomed 10 (omega arith) x in
-    let number = roomed 20 (omega (arith, word.next, same word)) y in
-    let end = roomed 1 (omega (arith, word.next, same word, number.next, same number, few 20 n)) z in
-    then word (then number end)
-
--- nothing behind the kind of an exact one
-pub no_mark : {b : List ℕ} {at : ℕ} (exact : Bool) → exact ≡ true → Prints (has_room 1 b at) b at (mark_text exact) at b
-unfolding mark_text
-no_mark {b} {at} exact e = rw e (record { puts = go (has_room 1 b at) })
-  where
-    go : (fits : Bool) → Puts b at (cond fits [] []) at b
-    go true = nothing b at
-    go false = nothing b at
-
-pub its_mark : {b a : List ℕ} {at r : ℕ} (exact : Bool) → exact ≡ false → Prints (has_room 1 b at) b at (0x7E ∷ []) r a
-    → Prints (has_room 1 b at) b at (mark_text exact) r a
-unfolding mark_text
-its_mark exact e p = rw e p
+    let word = roomed_on 10 (omega arith) x in
+    let number = roomed_on 20 (omega (arith, word.puts.next, same word.puts)) y in
+    let end = roomed_on 1 (omega (arith, word.puts.next, same word.puts, number.puts.next, same number.puts, few 20 n)) z in
+    then_on word (then_on number end)
 
 -- ---- short
 

@@ -3,9 +3,8 @@
 use Rattle.std.specs.Prelude.{◌≡◌, true, false, List, [], ◌∷◌, ◌++◌, ℕ, ◌-◌, take, drop}
 use Rattle.text.specs.Put.{has_room}
 use Rattle.listing.specs.declared.Listing.{Listing}
-use Rattle.listing.specs.declared.Fed.{Fed}
 use Rattle.listing.specs.Lines.{frame_line_room}
-use Rattle.listing.specs.Promises.{Feeds, Finishes}
+use Rattle.listing.specs.Promises.{Fed, Feeds, Finishes}
 
 -- what stands in the lent octets from one place to another
 abbrev pub text_between : ℕ → ℕ → List ℕ → List ℕ

@@ -1,11 +1,10 @@
 -- What the functions promise of a listing, its window and the lent octets.
 -- Assumes nothing.
-use Rattle.std.specs.Prelude.{◌≡◌, Bool, true, false, ◌&&◌, List, ℕ, ◌+◌, ◌<◌, ◌≤◌, ◌^◌, ltb, length, take, set}
+use Rattle.std.specs.Prelude.{◌≡◌, Bool, true, false, Option, Some, None, ◌&&◌, List, ℕ, ◌+◌, ◌<◌, ◌≤◌, ◌^◌, ltb, length, take, set}
 use Rattle.std.proofs.lemmas.List.Edits.{sets}
 use Rattle.listing.specs.declared.form.Scan.{Scan}
-use Rattle.listing.specs.declared.form.Scan.TheVariants.{Begin, Digit, Symbol, Line, Space, Broken}
+use Rattle.listing.specs.declared.form.Scan.TheVariants.{Begin, Digit, Symbol, Line, Space}
 use Rattle.listing.specs.declared.Listing.{Listing}
-use Rattle.listing.specs.declared.Fed.{Fed}
 use Rattle.line.specs.Write.{frame_room}
 use Rattle.text.specs.Put.{has_room, Prints}
 use Rattle.listing.specs.Lines.{frame_line_room}
@@ -43,6 +42,17 @@ listing_of s = record { scan = s.scan; before = s.before; count = length s.symbo
 
 -- ---- a step
 
+-- after a character: the listing, whether it ends there, and the place behind what was printed
+pub record Fed : Type 0 where
+  pub listing : Listing
+  pub ends : Bool
+  pub at : ℕ
+
+-- an answer to a character: the listing that goes on, or none where it ends and stays as it stood
+abbrev pub fed_as : Listing → Option Listing → ℕ → Fed
+fed_as l (Some m) at = record { listing = m; ends = false; at = at }
+fed_as l None at = record { listing = l; ends = true; at = at }
+
 unfoldable pub printed_by : Step → List ℕ
 printed_by (goes t s) = t
 printed_by (stops t) = t
@@ -56,16 +66,16 @@ fed_by (goes t s) l at = record { listing = listing_of s; ends = false; at = at 
 fed_by (stops t) l at = stopped l (at + length t)
 
 -- a symbol is put behind those in the window
-unfoldable pub window_after : Scan → ℕ → List ℕ → List ℕ
-window_after Begin n window = window
-window_after (Digit a) n window = window
-window_after (Symbol v) n window = set window n v
-window_after Line n window = window
-window_after Space n window = window
-window_after Broken n window = window
+unfoldable pub window_after : Option Scan → ℕ → List ℕ → List ℕ
+window_after (Some Begin) n window = window
+window_after (Some (Digit a)) n window = window
+window_after (Some (Symbol v)) n window = set window n v
+window_after (Some Line) n window = window
+window_after (Some Space) n window = window
+window_after None n window = window
 
 -- the step to a form of the text
-pub record Goes (l : Listing) (to : Scan) (window out : List ℕ) (at : ℕ) (r : Fed) (window' out' : List ℕ) : Type 0 where
+pub record Goes (l : Listing) (to : Option Scan) (window out : List ℕ) (at : ℕ) (r : Fed) (window' out' : List ℕ) : Type 0 where
   pub fed : r ≡ fed_by (step_to to l.before (take l.count window)) l at
   pub stands : out' ≡ sets out at (printed_by (step_to to l.before (take l.count window)))
   pub holds : window' ≡ window_after to l.count window

@@ -1,9 +1,9 @@
 -- An input, character by character: what is held of it, what each character prints, and what its end prints.
 -- Assumes nothing.
-use Rattle.std.specs.Prelude.{List, [], ◌∷◌, ◌++◌, ℕ, ◌+◌, length}
+use Rattle.std.specs.Prelude.{Option, Some, None, List, [], ◌∷◌, ◌++◌, ℕ, ◌+◌, length}
 use Rattle.line.specs.Read.{First, frame, wrong_crc, too_short, no_frame, first}
 use Rattle.listing.specs.declared.form.Scan.{Scan}
-use Rattle.listing.specs.declared.form.Scan.TheVariants.{Begin, Digit, Symbol, Line, Space, Broken}
+use Rattle.listing.specs.declared.form.Scan.TheVariants.{Begin, Digit, Symbol, Line, Space}
 use Rattle.listing.specs.Lines.{frame_text, no_text, bad_octet_text}
 use Rattle.listing.specs.Listed.{short_text}
 use Rattle.listing.specs.Scans.{form_after, input_may_end}
@@ -29,14 +29,14 @@ on_symbol s p w (no_frame q) = stops (no_text 13 (p + q))
 on_symbol s p w (too_short q) = goes [] (record { scan = s; before = p; symbols = w })
 on_symbol s p w (wrong_crc q) = stops (no_text 15 (p + q))
 
--- by what the text ends with now
-unfoldable pub step_to : Scan → ℕ → List ℕ → Step
-step_to Begin p w = goes [] (record { scan = Begin; before = p; symbols = w })
-step_to (Digit a) p w = goes [] (record { scan = Digit a; before = p; symbols = w })
-step_to (Symbol v) p w = on_symbol (Symbol v) p (w ++ (v ∷ [])) (first (w ++ (v ∷ [])))
-step_to Line p w = goes [] (record { scan = Line; before = p; symbols = w })
-step_to Space p w = goes [] (record { scan = Space; before = p; symbols = w })
-step_to Broken p w = stops (bad_octet_text (p + length w + 1))
+-- by what the text ends with now; where its form breaks the next symbol is out of form
+unfoldable pub step_to : Option Scan → ℕ → List ℕ → Step
+step_to (Some Begin) p w = goes [] (record { scan = Begin; before = p; symbols = w })
+step_to (Some (Digit a)) p w = goes [] (record { scan = Digit a; before = p; symbols = w })
+step_to (Some (Symbol v)) p w = on_symbol (Symbol v) p (w ++ (v ∷ [])) (first (w ++ (v ∷ [])))
+step_to (Some Line) p w = goes [] (record { scan = Line; before = p; symbols = w })
+step_to (Some Space) p w = goes [] (record { scan = Space; before = p; symbols = w })
+step_to None p w = stops (bad_octet_text (p + length w + 1))
 
 unfoldable pub character_step : ListingState → ℕ → Step
 character_step s c = step_to (form_after s.scan c) s.before s.symbols

@@ -4,11 +4,10 @@ use Rattle.std.specs.Prelude.{◌≡◌, true, List, ℕ, ◌+◌, ◌<◌, ◌^
 use Rattle.line.specs.Frame.{Frame, AllWhole, joined}
 use Rattle.reader.specs.Walk.{read_exact}
 use Rattle.listing.specs.declared.Listing.{Listing}
-use Rattle.listing.specs.declared.Fed.{Fed}
 use Rattle.listing.specs.Form.{recorded}
 use Rattle.listing.specs.Listed.{frames_text, listed}
 use Rattle.listing.specs.Steps.{empty_state, printed_from}
-use Rattle.listing.specs.Promises.{window_room, Right, listing_of, BeginsListing, Feeds, Finishes}
+use Rattle.listing.specs.Promises.{Fed, window_room, Right, listing_of, BeginsListing, Feeds, Finishes}
 use Rattle.listing.specs.Calls.{CallsPrint}
 
 -- ---- 1. Of whole frames each is shown, none with a mark, and nothing more

@@ -12,47 +12,42 @@ pub enum Scan {
     Symbol(u8),
     Line,
     Space,
-    Broken,
 }
 
-fn first_digit(c: u8) -> Scan
+#[tactic(auto, unfolding(crate::specs::Scans::first_digit))]
+fn first_digit(c: u8) -> Option<Scan>
     ensures { result ≡ first_digit c }
 {
-    if is_hex(c) {
-        return Scan::Digit(c);
-    }
-    Scan::Broken
+    is_hex(c).then_some(Scan::Digit(c))
 }
 
-fn second_digit(a: u8, c: u8) -> Scan
+#[tactic(auto, unfolding(crate::specs::Scans::second_digit))]
+fn second_digit(a: u8, c: u8) -> Option<Scan>
     ensures { result ≡ second_digit a c }
 {
-    if is_hex(c) {
-        return Scan::Symbol(octet_of(a, c));
-    }
-    Scan::Broken
+    is_hex(c).then_some(Scan::Symbol(octet_of(a, c)))
 }
 
-fn gap(c: u8) -> Scan
+#[tactic(auto, unfolding(crate::specs::Scans::gap))]
+fn gap(c: u8) -> Option<Scan>
     ensures { result ≡ gap c }
 {
     match c {
-        b'\n' => Scan::Line,
-        b' ' => Scan::Space,
-        _ => Scan::Broken,
+        b'\n' => Some(Scan::Line),
+        b' ' => Some(Scan::Space),
+        _ => None,
     }
 }
 
-pub(crate) fn form_after(scan: Scan, c: u8) -> Scan
+// The form with one character more, and none where it breaks.
+#[tactic(auto, unfolding(crate::specs::Scans::form_after))]
+pub(crate) fn form_after(scan: Scan, c: u8) -> Option<Scan>
     ensures { result ≡ form_after scan c }
 {
     match scan {
-        Scan::Begin => first_digit(c),
         Scan::Digit(a) => second_digit(a, c),
         Scan::Symbol(_) => gap(c),
-        Scan::Line => first_digit(c),
-        Scan::Space => first_digit(c),
-        Scan::Broken => Scan::Broken,
+        Scan::Begin | Scan::Line | Scan::Space => first_digit(c),
     }
 }
 
@@ -60,12 +55,5 @@ pub(crate) fn form_after(scan: Scan, c: u8) -> Scan
 pub(crate) fn input_may_end(scan: Scan) -> bool
     ensures { result ≡ input_may_end scan }
 {
-    match scan {
-        Scan::Begin => true,
-        Scan::Digit(_) => false,
-        Scan::Symbol(_) => true,
-        Scan::Line => true,
-        Scan::Space => false,
-        Scan::Broken => false,
-    }
+    matches!(scan, Scan::Begin | Scan::Symbol(_) | Scan::Line)
 }

@@ -1,18 +1,19 @@
 // What is on a line: the text of a record, character by character, to a line of text for each frame in it.
 #![tactic(auto)]
 
-use line::read::{Answer, Cursor, read_frame};
-use text::put::has_room;
+use line::read::{Cursor, ReadError, read_frame};
+use text::Page;
 
 mod form;
 mod print;
 
-ghost use Rattle.std.specs.Prelude.{◌≡◌, true, ◌&&◌, ◌+◌, ◌≤◌, ◌<◌, ◌^◌, leb, length};
-ghost use Rattle.text.specs.Put.{has_room, Puts};
+ghost use Rattle.std.specs.Prelude.{◌≡◌, true, Some, ◌+◌, ◌≤◌, ◌<◌, ◌^◌, length};
+ghost use Rattle.text.specs.Put.{has_room};
+ghost use Rattle.text.specs.Page.{PutsOn};
 ghost use Rattle.listing.specs.Lines.{frame_line_room};
 ghost use Rattle.listing.specs.declared.form.Scan.TheVariants.{Symbol};
 ghost use Rattle.listing.specs.Steps.{end_text};
-ghost use Rattle.listing.specs.Promises.{Bounded, in_bounds, stopped, Goes, BeginsListing, Feeds, Finishes};
+ghost use Rattle.listing.specs.Promises.{Bounded, in_bounds, may_print, fed_as, Goes, BeginsListing, Feeds, Finishes};
 
 use crate::form::{Scan, form_after, input_may_end};
 use crate::print::{put_bad, put_frame, put_no};
@@ -24,6 +25,7 @@ pub const FRAME_LINE_ROOM: usize = 126;
 const WINDOW_ROOM: usize = 73;
 
 // What is held of an input: its form so far, the place of the symbols that no frame has yet, and how many these are. They stand at the beginning of the window.
+// The window is lent and its count stands here: `Feeds` and `ListsByCalls` promise for whatever window is lent.
 #[derive(Clone, Copy)]
 pub struct Listing {
     scan: Scan,
@@ -31,14 +33,7 @@ pub struct Listing {
     count: usize,
 }
 
-// After a character: the listing, whether it ends there, and the place behind what was printed.
-#[derive(Clone, Copy)]
-pub struct Fed {
-    pub listing: Listing,
-    pub ends: bool,
-    pub at: usize,
-}
-
+#[tactic(auto, unfolding(crate::specs::Steps::empty_state))]
 pub fn begin() -> Listing
     ensures { BeginsListing result }
 {
@@ -49,73 +44,57 @@ pub fn begin() -> Listing
     }
 }
 
-fn stop(listing: Listing, at: usize) -> Fed
-    ensures { result ≡ stopped listing at }
-{
-    Fed {
-        listing,
-        ends: true,
-        at,
-    }
-}
-
 // A symbol: with those before it a frame, too few for one, or no frame.
-fn symbol(listing: Listing, v: u8, window: &mut [u8], out: &mut [u8], at: usize) -> Fed
-    requires { Bounded listing × (length window.old ≡ 73) × (has_room frame_line_room out.old at ≡ true) }
-    ensures { Goes listing (Symbol v) window.old out.old at result window.new out.new }
+fn symbol(listing: Listing, v: u8, window: &mut [u8; 73], page: &mut Page) -> Option<Listing>
+    requires { Bounded listing × (has_room frame_line_room page.old.octets.now page.old.at ≡ true) }
+    ensures same_octets { page.new.octets.ghost_name ≡ page.old.octets.ghost_name }
+    ensures goes { Goes listing (Some (Symbol v)) window.old page.old.octets.now page.old.at (fed_as listing result page.new.at) window.new page.new.octets.now }
 {
     let place = listing.before;
     let n = listing.count;
     window[n] = v;
     let mut octets = [0u8; 34];
     match read_frame(&window[..n + 1], Cursor { at: 0 }, &mut octets) {
-        Answer::Frame {
-            kind,
-            exact,
-            count,
-            next: _,
-        } => Fed {
-            listing: Listing {
+        Ok(found) => {
+            let octets = &octets[..found.count];
+            put_frame(place, u8::from(found.kind), found.exact, octets, page);
+            Some(Listing {
                 scan: Scan::Symbol(v),
                 before: place + n + 1,
                 count: 0,
-            },
-            ends: false,
-            at: put_frame(place, kind, exact, &octets[..count], out, at),
-        },
-        Answer::TooShort(_) => Fed {
-            listing: Listing {
-                scan: Scan::Symbol(v),
-                before: place,
-                count: n + 1,
-            },
-            ends: false,
-            at,
-        },
-        Answer::NoFrame(p) => stop(listing, put_no(13, place + p, out, at)),
-        Answer::WrongCrc(p) => stop(listing, put_no(15, place + p, out, at)),
-        Answer::SmallBuffer => stop(listing, at),
+            })
+        }
+        Err(ReadError::TooShort(_)) => Some(Listing {
+            scan: Scan::Symbol(v),
+            before: place,
+            count: n + 1,
+        }),
+        Err(ReadError::NoFrame(p)) => {
+            put_no(13, place + p, page);
+            None
+        }
+        Err(ReadError::WrongCrc(p)) => {
+            put_no(15, place + p, page);
+            None
+        }
+        Err(ReadError::SmallBuffer) => None,
     }
 }
 
 // By what the text ends with now.
-fn go(listing: Listing, to: Scan, window: &mut [u8], out: &mut [u8], at: usize) -> Fed
-    requires { Bounded listing × (length window.old ≡ 73) × (has_room frame_line_room out.old at ≡ true) }
-    ensures { Goes listing to window.old out.old at result window.new out.new }
+fn go(listing: Listing, to: Option<Scan>, window: &mut [u8; 73], page: &mut Page) -> Option<Listing>
+    requires { Bounded listing × (has_room frame_line_room page.old.octets.now page.old.at ≡ true) }
+    ensures same_octets { page.new.octets.ghost_name ≡ page.old.octets.ghost_name }
+    ensures goes { Goes listing to window.old page.old.octets.now page.old.at (fed_as listing result page.new.at) window.new page.new.octets.now }
 {
-    let place = listing.before;
-    let n = listing.count;
     match to {
-        Scan::Symbol(v) => symbol(listing, v, window, out, at),
-        Scan::Broken => stop(listing, put_bad(place + n + 1, out, at)),
-        _ => Fed {
-            listing: Listing {
-                scan: to,
-                before: place,
-                count: n,
-            },
-            ends: false,
-            at,
+        None => {
+            put_bad(listing.before + listing.count + 1, page);
+            None
+        }
+        Some(scan) => match scan {
+            Scan::Symbol(v) => symbol(listing, v, window, page),
+            _ => Some(Listing { scan, ..listing }),
         },
     }
 }
@@ -124,54 +103,48 @@ fn go(listing: Listing, to: Scan, window: &mut [u8], out: &mut [u8], at: usize) 
 fn in_bounds(listing: Listing) -> bool
     ensures { result ≡ in_bounds listing }
 {
-    let count = listing.count;
-    if count < WINDOW_ROOM {
-        return listing.before < usize::MAX - count;
-    }
-    false
+    listing.count < WINDOW_ROOM && listing.before < usize::MAX - listing.count
 }
 
-// Whether so many octets have room for any line behind `at`, and the listing is in bounds.
-fn may_print(listing: Listing, octets: usize, at: usize) -> bool
-    ensures { result ≡ (in_bounds listing && leb (at + frame_line_room) octets) }
+// Whether the page has room for any line, and the listing is in bounds.
+fn may_print(listing: Listing, page: &Page) -> bool
+    ensures { result ≡ may_print listing page.now.octets.now page.now.at }
 {
-    if in_bounds(listing) {
-        return has_room(FRAME_LINE_ROOM, octets, at);
-    }
-    false
+    in_bounds(listing) && page.has_room(FRAME_LINE_ROOM)
 }
 
-// Takes a character. Where a line of text need not fit behind `at`, or 64 bits do not count its symbols, it takes none and the listing ends.
-pub fn feed(listing: Listing, c: u8, window: &mut [u8; 73], out: &mut [u8], at: usize) -> Fed
-    ensures { Feeds listing c window.old out.old at result window.new out.new }
+// Takes a character: the listing that goes on, or none where it ends. Where a line of text need not fit on the page, or 64 bits do not
+// count its symbols, it takes none and ends.
+#[tactic(auto, unfolding(crate::specs::Promises::TakesCharacter))]
+pub fn feed(listing: Listing, c: u8, window: &mut [u8; 73], page: &mut Page) -> Option<Listing>
+    ensures same_octets { page.new.octets.ghost_name ≡ page.old.octets.ghost_name }
+    ensures feeds { Feeds listing c window.old page.old.octets.now page.old.at (fed_as listing result page.new.at) window.new page.new.octets.now }
 {
-    if may_print(listing, out.len(), at) {
-        let scan = listing.scan;
-        return go(listing, form_after(scan, c), window, out, at);
+    if may_print(listing, page) {
+        return go(listing, form_after(listing.scan, c), window, page);
     }
-    stop(listing, at)
+    None
 }
 
-fn put_end(scan: Scan, place: usize, count: usize, out: &mut [u8], at: usize) -> usize
-    requires { (place + count + 1 < 2 ^ 64) × (at + frame_line_room ≤ length out.old) }
-    ensures { Puts out.old at (end_text scan place count) result out.new }
+#[tactic(auto, unfolding(crate::specs::Steps::end_text, crate::specs::Listed::short_text))]
+fn put_end(listing: Listing, page: &mut Page)
+    requires { (listing.before + listing.count + 1 < 2 ^ 64) × (page.old.at + frame_line_room ≤ length page.old.octets.now) }
+    ensures { PutsOn page.old (end_text listing.scan listing.before listing.count) page.new }
 {
-    if input_may_end(scan) {
-        if count == 0 {
-            return at;
-        }
-        return put_no(14, place + count, out, at);
+    let place = listing.before + listing.count;
+    if !input_may_end(listing.scan) {
+        put_bad(place + 1, page);
+    } else if listing.count != 0 {
+        put_no(14, place, page);
     }
-    put_bad(place + count + 1, out, at)
 }
 
 // The input ends: prints what is then said, or nothing where `feed` would take nothing.
-pub fn finish(listing: Listing, out: &mut [u8], at: usize) -> usize
-    ensures { Finishes listing out.old at result out.new }
+pub fn finish(listing: Listing, page: &mut Page)
+    ensures same_octets { page.new.octets.ghost_name ≡ page.old.octets.ghost_name }
+    ensures finishes { Finishes listing page.old.octets.now page.old.at page.new.at page.new.octets.now }
 {
-    if may_print(listing, out.len(), at) {
-        let scan = listing.scan;
-        return put_end(scan, listing.before, listing.count, out, at);
+    if may_print(listing, page) {
+        put_end(listing, page);
     }
-    at
 }

@@ -1,58 +1,55 @@
 // The lines that are printed: one for each frame, and a last one where the record does not go on with a frame.
+// No `Display`: `Feeds` and `Finishes` promise the whole text where there is room, and else none of it (text/src/page.rt).
+// Room is a clause of each function and no type, since it is another for each and shrinks with every text.
 ghost use Rattle.std.specs.Prelude.{◌+◌, ◌≤◌, length};
-ghost use Rattle.text.specs.Put.{has_room, Puts, Prints};
+ghost use Rattle.text.specs.Put.{has_room};
+ghost use Rattle.text.specs.Page.{PutsOn, PrintsOn};
 ghost use Rattle.listing.specs.Lines.{mark_text, frame_text, no_text, bad_octet_text, frame_line_room};
 
-use text::put::{put, put_decimal, put_octets, put_text};
+use text::Page;
 
 // As many digits as any place or number has.
 const PLACE_DIGITS: usize = 20;
 
 // `~` behind the kind of a frame whose set was not exact.
-fn put_mark(exact: bool, out: &mut [u8], at: usize) -> usize
-    ensures { Prints (has_room 1 out.old at) out.old at (mark_text exact) result out.new }
+#[tactic(auto, unfolding(crate::specs::Lines::mark_text))]
+fn put_mark(exact: bool, page: &mut Page)
+    ensures { PrintsOn (has_room 1 page.old.octets.now page.old.at) page.old (mark_text exact) page.new }
 {
-    if exact {
-        return at;
+    if !exact {
+        page.put(b'~');
     }
-    put(b'~', out, at)
 }
 
-pub(crate) fn put_frame(
-    place: usize,
-    kind: u8,
-    exact: bool,
-    octets: &[u8],
-    out: &mut [u8],
-    at: usize,
-) -> usize
-    requires { (length octets.now ≤ 34) × (at + frame_line_room ≤ length out.old) }
-    ensures { Puts out.old at (frame_text place (record { shape = record { kind = kind; octets = octets.now }; exact = exact })) result out.new }
+// A frame's line. Kind and number stand here as the numbers that are printed (`frame_text`, `no_text`).
+pub(crate) fn put_frame(place: usize, kind: u8, exact: bool, octets: &[u8], page: &mut Page)
+    requires { (length octets.now ≤ 34) × (page.old.at + frame_line_room ≤ length page.old.octets.now) }
+    ensures { PutsOn page.old (frame_text place (record { shape = record { kind = kind; octets = octets.now }; exact = exact })) page.new }
 {
-    let a = put_decimal(place, PLACE_DIGITS, out, at);
-    let b = put(b' ', out, a);
-    let c = put_decimal(kind as usize, 1, out, b);
-    let d = put_mark(exact, out, c);
-    let e = put_octets(octets, out, d);
-    put(b'\n', out, e)
+    page.put_decimal(place, PLACE_DIGITS);
+    page.put(b' ');
+    page.put_decimal(kind as usize, 1);
+    put_mark(exact, page);
+    page.put_octets(octets);
+    page.put(b'\n');
 }
 
-pub(crate) fn put_no(number: usize, place: usize, out: &mut [u8], at: usize) -> usize
-    requires { at + frame_line_room ≤ length out.old }
-    ensures { Puts out.old at (no_text number place) result out.new }
+pub(crate) fn put_no(number: usize, place: usize, page: &mut Page)
+    requires { page.old.at + frame_line_room ≤ length page.old.octets.now }
+    ensures { PutsOn page.old (no_text number place) page.new }
 {
-    let a = put_text(b"no", out, at);
-    let b = put_decimal(number, 2, out, a);
-    let c = put(b' ', out, b);
-    let d = put_decimal(place, PLACE_DIGITS, out, c);
-    put(b'\n', out, d)
+    page.put_text(b"no");
+    page.put_decimal(number, 2);
+    page.put(b' ');
+    page.put_decimal(place, PLACE_DIGITS);
+    page.put(b'\n');
 }
 
-pub(crate) fn put_bad(number: usize, out: &mut [u8], at: usize) -> usize
-    requires { at + frame_line_room ≤ length out.old }
-    ensures { Puts out.old at (bad_octet_text number) result out.new }
+pub(crate) fn put_bad(number: usize, page: &mut Page)
+    requires { page.old.at + frame_line_room ≤ length page.old.octets.now }
+    ensures { PutsOn page.old (bad_octet_text number) page.new }
 {
-    let a = put_text(b"bad octet ", out, at);
-    let b = put_decimal(number, PLACE_DIGITS, out, a);
-    put(b'\n', out, b)
+    page.put_text(b"bad octet ");
+    page.put_decimal(number, PLACE_DIGITS);
+    page.put(b'\n');
 }

@@ -11,19 +11,20 @@ use Rattle.machine.specs.Step.{step, after}
 use Rattle.machine.specs.Why.{Reason, why}
 use Rattle.machine.specs.Theorems.{AllFit}
 use Rattle.fusb302.specs.declared.device.Device.{Device}
-use Rattle.fusb302.specs.declared.device.Reply.{Reply}
 use Rattle.fusb302.specs.declared.why.Why.{Why}
 use Rattle.fusb302.specs.View.{view}
+use Rattle.fusb302.specs.Serves.{Reply}
 use Rattle.fusb302.specs.Why.{reason_of}
 use Rattle.fusb302.proofs.Outcomes.{why_of, reason_back}
 use Rattle.lives.specs.Lives.{Lived, born, went, Act, event, question, events_of, LivedAsking, began, goes, asks}
 use Rattle.lives.specs.Theorems.{EveryQuestionAnswered, answers_to, AskingChangesNothing, AskingLifeOf, EveryAskingLived}
+use Rattle.machine.proofs.Keeping.{power_up_good}
 use Rattle.lives.proofs.Making.{made, made_powered_up}
 use Rattle.lives.proofs.Living.{every_call_allowed, every_call_answered, called}
 
 pub every_question_answered : EveryQuestionAnswered
 every_question_answered es d rs line k m life =
-    ((every_call_allowed es d rs line life).asks, record { answer = why_of (why (view d) k m); explains = reason_back (why (view d) k m) })
+    ((every_call_allowed es d rs line life).asks, record { answer = why_of (why (view d) k m); explains = reason_back (view d) k m })
 
 -- ---- one act more
 
@@ -92,7 +93,7 @@ asks_on acts k m l =
       replies = l.replies;
       line = l.line;
       answers = l.answers ++ (why_of o ∷ []);
-      lived = asks k m (why_of o) l.lived (reason_back o);
+      lived = asks k m (why_of o) l.lived (reason_back (view l.device) k m);
     }
 
 lives_through : (past acts : List Act) → AskingLifeOf past → AllFit (events_of acts) → AskingLifeOf (past ++ acts)
@@ -104,4 +105,4 @@ lives_through past (question k m ∷ acts) l f =
 
 pub every_asking_lived : EveryAskingLived
 every_asking_lived acts f =
-    lives_through [] acts (record { device = made power_up; replies = []; line = []; answers = []; lived = began made_powered_up }) f
+    lives_through [] acts (record { device = made power_up power_up_good; replies = []; line = []; answers = []; lived = began made_powered_up }) f

@@ -9,11 +9,12 @@ use native.Mathlib.Omega.{arith}
 use borrow.Author.Tests.{ltb-false}
 use lib.ListN.{length, take, drop, replicate, length-replicate}
 use lib.Seq.{drop_at}
+use Rattle.std.specs.Prelude.{Err}
 use Rattle.line.specs.Frame.{Frame, joined}
 use Rattle.line.specs.Write.{frame_room}
 use Rattle.machine.specs.State.{State, power_up}
 use Rattle.machine.specs.Events as events
-use Rattle.machine.specs.Events.{Event, Fits, room}
+use Rattle.machine.specs.Events.{Event, Fits, no, room}
 use Rattle.machine.specs.Refusals.{no12, table, refusal}
 use Rattle.machine.specs.Step.{result_of, step, after, replies, frames, record_of}
 use Rattle.machine.specs.Good.{Good}
@@ -21,13 +22,12 @@ use Rattle.machine.specs.Theorems.{AllFit, FirstToApply}
 use Rattle.machine.proofs.Refusing.{first_none_exactly, refused_exactly, refusal_changes_nothing}
 use Rattle.machine.proofs.Recording.{symbols_sent, record_names_frames, records_differ}
 use Rattle.fusb302.specs.declared.device.Device.{Device}
-use Rattle.fusb302.specs.declared.device.Reply.{Reply}
-use Rattle.fusb302.specs.declared.device.Reply.TheVariants.{No}
 use Rattle.fusb302.specs.declared.device.Outcome.{Outcome}
+use Rattle.fusb302.specs.declared.refusals.No.{No}
+use Rattle.fusb302.specs.Refusals.{number_of}
 use Rattle.fusb302.specs.View.{view}
-use Rattle.fusb302.specs.Serves.{replied, Serves}
+use Rattle.fusb302.specs.Serves.{Reply, replied, Serves}
 use Rattle.fusb302.proofs.Serving.{served_symbols}
-use Rattle.fusb302.proofs.Outcomes.{one_meaning}
 use Rattle.lives.specs.Lives.{Called, Lived, born, went}
 use Rattle.lives.specs.Theorems.{
   Allowed,
@@ -42,6 +42,7 @@ use Rattle.lives.specs.Theorems.{
   LifeOf,
   EveryHistoryLived,
 }
+use Rattle.machine.proofs.Keeping.{power_up_good}
 use Rattle.lives.proofs.Making.{made, answered, made_powered_up}
 
 -- ---- the machine with one more event
@@ -86,15 +87,15 @@ module _ {e : Event} {d : Device} {before : List ℕ} {r : Outcome} {lent : List
       ∙ drop_at (joined (step (view d) e).frames) _ r.count (sym serves.count)
       ∙ ap (λ (n : ℕ). drop n before) (sym serves.count)
 
-  refuses : (n : ℕ) → (r.reply ≡ No n) ↔ FirstToApply n (table (view d) e)
+  refuses : (n : ℕ) → (replied r.reply ≡ no n) ↔ FirstToApply n (table (view d) e)
   refuses n =
       let rows = refused_exactly (view d) e n in
-      (λ q. rows.0 (sym serves.reply ∙ ap replied q), λ f. one_meaning r.reply (No n) (serves.reply ∙ rows.1 f))
+      (λ q. rows.0 (sym serves.reply ∙ q), λ f. serves.reply ∙ rows.1 f)
 
-  unchanged : (n : ℕ) → r.reply ≡ No n → Unchanged d before r lent
+  unchanged : (n : No) → r.reply ≡ Err n → Unchanged d before r lent
   unfolding joined
   unchanged n q =
-      let silent = (refusal_changes_nothing (view d) e n (sym serves.reply ∙ ap replied q)).1 in
+      let silent = (refusal_changes_nothing (view d) e (number_of n) (sym serves.reply ∙ ap replied q)).1 in
       record { device = serves.refused n q; lent = rw silent at serves.lent; count = rw silent at serves.count }
 
 -- where less than a frame's room is lent, 12 is the first to apply and nothing is sent
@@ -206,4 +207,4 @@ lives_through es (e ∷ fs) l f =
 
 pub every_history_lived : EveryHistoryLived
 every_history_lived es f =
-    lives_through [] es (record { device = made power_up; replies = []; line = []; lived = born made_powered_up }) f
+    lives_through [] es (record { device = made power_up power_up_good; replies = []; line = []; lived = born made_powered_up }) f

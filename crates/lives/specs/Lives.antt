@@ -3,11 +3,10 @@
 use Rattle.std.specs.Prelude.{◌≡◌, List, [], ◌∷◌, ◌++◌, ℕ, length, take}
 use Rattle.machine.specs.Events.{Event, Fits, room}
 use Rattle.fusb302.specs.declared.device.Device.{Device}
-use Rattle.fusb302.specs.declared.device.Reply.{Reply}
 use Rattle.fusb302.specs.declared.device.Outcome.{Outcome}
 use Rattle.fusb302.specs.View.{PoweredUp}
 use Rattle.fusb302.specs.declared.why.Why.{Why}
-use Rattle.fusb302.specs.Serves.{Serves}
+use Rattle.fusb302.specs.Serves.{Reply, Serves}
 use Rattle.fusb302.specs.Why.{Explains}
 
 -- the event of a call, as contracts have it: numbers that parameters can carry, and for its room the length of the lent symbols

@@ -1,22 +1,21 @@
 -- What holds of every life; proofs/Living.antt has the proof of each statement, proofs/Asking.antt of those about questions.
 -- Assumes nothing.
-use Rattle.std.specs.Prelude.{◌≡◌, List, [], ◌∷◌, map, ◌↔◌, ◌⊎◌, ℕ, ◌≤◌, length, take, drop}
+use Rattle.std.specs.Prelude.{◌≡◌, List, [], ◌∷◌, map, ◌↔◌, ◌⊎◌, ℕ, ◌≤◌, length, take, drop, Err}
 use Rattle.std.proofs.Math.Option.{Option}
 use Rattle.line.specs.Frame.{Frame, AllWhole, joined}
 use Rattle.line.specs.Write.{frame_room}
 use Rattle.machine.specs.State.{State, power_up}
-use Rattle.machine.specs.Events.{Event}
+use Rattle.machine.specs.Events.{Event, no}
 use Rattle.machine.specs.Refusals.{table}
 use Rattle.machine.specs.Step as machine
 use Rattle.machine.specs.Why.{Reason, why}
 use Rattle.machine.specs.Theorems.{AllFit, FirstToApply}
 use Rattle.fusb302.specs.declared.device.Device.{Device}
-use Rattle.fusb302.specs.declared.device.Reply.{Reply}
-use Rattle.fusb302.specs.declared.device.Reply.TheVariants.{No}
 use Rattle.fusb302.specs.declared.device.Outcome.{Outcome}
+use Rattle.fusb302.specs.declared.refusals.No.{No}
 use Rattle.fusb302.specs.View.{view, Asks}
 use Rattle.fusb302.specs.declared.why.Why.{Why}
-use Rattle.fusb302.specs.Serves.{replied, Serves}
+use Rattle.fusb302.specs.Serves.{Reply, replied, Serves}
 use Rattle.fusb302.specs.Why.{reason_of, Explains}
 use Rattle.lives.specs.Lives.{Called, Lived, Act, event, question, events_of, LivedAsking}
 
@@ -51,8 +50,8 @@ abbrev pub RefusalLeavesAll : Type 0
 RefusalLeavesAll =
     (es : List Event) (d : Device) (rs : List Reply) (line : List ℕ) (e : Event) (before : List ℕ) (r : Outcome) (after : List ℕ)
     → Lived es d rs line → Called e before → Serves e d before r after
-    → ((n : ℕ) → (r.reply ≡ No n) ↔ FirstToApply n (table (machine.after power_up es) e))
-    × ((n : ℕ) → r.reply ≡ No n → Unchanged d before r after)
+    → ((n : ℕ) → (replied r.reply ≡ no n) ↔ FirstToApply n (table (machine.after power_up es) e))
+    × ((n : No) → r.reply ≡ Err n → Unchanged d before r after)
     × Asks r.device
 
 -- ---- 4. Condition 3: the record is the symbols of the machine's frames, joined, and divides into no others

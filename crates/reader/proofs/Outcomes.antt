@@ -3,7 +3,9 @@
 use mathlib.Core.Path.{◌≡◌, sym, ap, ◌∙◌}
 use mathlib.Core.List.{List}
 use Prim.Native.Nat.{ℕ}
-use Rattle.line.specs.declared.read.Answer.{Answer}
+use Rattle.std.specs.Prelude.{Result}
+use Rattle.line.specs.declared.read.FoundFrame.{FoundFrame}
+use Rattle.line.specs.declared.read.ReadError.{ReadError}
 use Rattle.line.specs.Reader.{said, behind}
 use Rattle.line.proofs.Outcomes.{one_reading, one_rest}
 use Rattle.reader.specs.Step.{Steps}
@@ -11,11 +13,11 @@ use Rattle.reader.specs.Theorems.{OneNew, OneNext, OnePlace, OneUnread, OneMove}
 
 -- ---- 5. One outcome
 
-one_step : (line : List ℕ) (at : ℕ) (before : List ℕ) (r s : Answer) (a b : List ℕ) (p q : ℕ)
+one_step : (line : List ℕ) (at : ℕ) (before : List ℕ) (r s : Result FoundFrame ReadError) (a b : List ℕ) (p q : ℕ)
     → Steps line at before r a p → Steps line at before s b q → (r ≡ s) × (a ≡ b) × (p ≡ q)
 one_step line at before r s a b p q x y =
     let o = one_reading line at before r s a b x.reads y.reads in
-    (o.0, o.1, x.moves ∙ ap (λ (t : Answer). behind at (said t)) o.0 ∙ sym y.moves)
+    (o.0, o.1, x.moves ∙ ap (λ (t : Result FoundFrame ReadError). behind at (said t)) o.0 ∙ sym y.moves)
 
 pub one_new : OneNew
 one_new line r s x y = λ i. record { line = (x.holds ∙ sym y.holds) i; at = record { at = (x.begins ∙ sym y.begins) i } }

@@ -1,7 +1,8 @@
 -- A record read by calls, one after the other: by a cursor and by a reader (01, 'Line reader').
 -- Assumes nothing.
-use Rattle.std.specs.Prelude.{◌≡◌, List, [], ◌∷◌, ℕ, ◌+◌, ◌≤◌, length}
-use Rattle.line.specs.declared.read.Answer.{Answer}
+use Rattle.std.specs.Prelude.{◌≡◌, List, [], ◌∷◌, ℕ, ◌+◌, ◌≤◌, length, Result}
+use Rattle.line.specs.declared.read.FoundFrame.{FoundFrame}
+use Rattle.line.specs.declared.read.ReadError.{ReadError}
 use Rattle.line.specs.Frame.{drawn}
 use Rattle.line.specs.Read.{ReadFrame, First, frame}
 use Rattle.line.specs.Reader.{octet_room, said, behind, Tells, Reads}
@@ -10,7 +11,7 @@ use Rattle.reader.specs.Step.{Nexts}
 
 -- what a call gives: the answer, and the lent octets after it
 pub record Returned : Type 0 where
-  pub answer : Answer
+  pub answer : Result FoundFrame ReadError
   pub octets : List ℕ
 
 -- read_frame's promise for each lent octets in turn, the cursor always at the place that the answer before led to

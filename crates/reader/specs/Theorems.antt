@@ -1,8 +1,9 @@
 -- What holds of a reader and of its walk; proofs/ has the proof of each statement.
 -- Assumes nothing.
-use Rattle.std.specs.Prelude.{◌≡◌, List, [], ◌++◌, ◌↔◌, ◌⊎◌, ℕ}
+use Rattle.std.specs.Prelude.{◌≡◌, List, [], ◌++◌, ◌↔◌, ◌⊎◌, ℕ, Result}
 use Rattle.std.specs.Borrow.{Bor}
-use Rattle.line.specs.declared.read.Answer.{Answer}
+use Rattle.line.specs.declared.read.FoundFrame.{FoundFrame}
+use Rattle.line.specs.declared.read.ReadError.{ReadError}
 use Rattle.line.specs.Frame.{Frame, AllWhole, joined}
 use Rattle.line.specs.Read.{First, wrong_crc, too_short, no_frame, first}
 use Rattle.line.specs.Theorems.{SameSlice}
@@ -66,7 +67,7 @@ OneNew = (line : Bor (List ℕ)) (r s : Reader) → Starts line r → Starts lin
 
 abbrev pub OneNext : Type 0
 OneNext =
-    (h : Reader) (before : List ℕ) (r s : Answer) (a b : List ℕ) (e f : Reader)
+    (h : Reader) (before : List ℕ) (r s : Result FoundFrame ReadError) (a b : List ℕ) (e f : Reader)
     → Nexts h before r a e → Nexts h before s b f → (r ≡ s) × (a ≡ b) × (e ≡ f)
 
 abbrev pub OnePlace : Type 0

@@ -5,32 +5,13 @@
 
 ghost use Rattle.reader.specs.Step.{Steps, Starts, Nexts, IsPlace, IsUnread};
 
-use line::read::{Answer, Cursor};
+use line::read::{Answer, Cursor, read_frame, rest};
 
-// What a step answers, and the place it leads to.
+// What a step answers, and the place it leads to; beside an error as well, since `Steps` says where the reader stays.
 #[derive(Clone, Copy)]
 pub struct Moved {
     pub answer: Answer,
     pub at: Cursor,
-}
-
-// The frame at a cursor, and the place behind it; where there is none, the same place.
-fn step_at(line: &[u8], at: Cursor, octets: &mut [u8]) -> Moved
-    ensures { Steps line.now at.at octets.old result.answer octets.new result.at.at }
-{
-    let answer = line::read::read_frame(line, at, octets);
-    match answer {
-        Answer::Frame {
-            kind: _,
-            exact: _,
-            count: _,
-            next,
-        } => Moved { answer, at: next },
-        Answer::SmallBuffer => Moved { answer, at },
-        Answer::NoFrame(_) => Moved { answer, at },
-        Answer::TooShort(_) => Moved { answer, at },
-        Answer::WrongCrc(_) => Moved { answer, at },
-    }
 }
 
 // A record and a place in it.
@@ -55,9 +36,11 @@ impl<'a> Reader<'a> {
     pub fn next(&mut self, octets: &mut [u8]) -> Answer
         ensures { Nexts self.old octets.old result octets.new self.new }
     {
-        let m = step_at(self.line, self.at, octets);
-        self.at = m.at;
-        m.answer
+        let answer = read_frame(self.line, self.at, octets);
+        if let Ok(found) = answer {
+            self.at = found.next;
+        }
+        answer
     }
 
     pub fn place(&self) -> usize
@@ -70,7 +53,7 @@ impl<'a> Reader<'a> {
     pub fn rest(self) -> &'a [u8]
         ensures { IsUnread self.entry result }
     {
-        line::read::rest(self.line, self.at)
+        rest(self.line, self.at)
     }
 }
 

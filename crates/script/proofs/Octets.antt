@@ -1,103 +1,73 @@
 -- Octets, a space before each: looked at, and then stored.
 -- Assumes nothing.
-use mathlib.Core.Path.{◌≡◌, refl, sym, ap, ◌∙◌, subst}
+use mathlib.Core.Path.{◌≡◌, refl, sym, ap, ◌∙◌}
 use mathlib.Core.Bool.{Bool, true, false, ◌&&◌}
-use mathlib.Core.List.{List, [], ◌∷◌}
-use Prim.Native.Nat.{ℕ, suc, ◌+◌, ◌*◌, ◌-◌, ◌<◌, ◌≤◌}
-use native.Mathlib.Numerals.{add-one, add-two, add-three}
+use mathlib.Core.List.{List, [], ◌∷◌, ◌++◌, map}
+use Prim.Native.Nat.{ℕ, suc, ◌+◌, ◌/◌, ◌%◌, ◌<◌, ◌≤◌}
 use native.Mathlib.Omega.{arith}
-use lib.Dec.{T}
-use lib.ListN.{length, drop, get_or, set, drop_of_length-le, length-drop, length-set}
-use lib.Seq.{drop-cons, sets}
+use lib.Dec.{eqb}
+use native.Mathlib.Nat.{add-zero, zero-add, add-suc, suc-add}
+use borrow.Author.Tests.{ne_eqb}
+use lib.ListN.{length, get_or, take, set}
+use lib.Seq.{sets, take_all, length-take-le}
+use Rattle.std.proofs.lemmas.List.{take_more, map-append, length-map}
+use Rattle.std.specs.List.{list_all}
+use Rattle.std.specs.Simd.{first_chunks}
 use Rattle.text.specs.Hex.{octet_of}
-use Rattle.text.proofs.Chars.{and_right}
-use Rattle.script.specs.Text.{octet_at, is_octet, are_octets, octets_in}
+use Rattle.script.specs.Text.{is_octet, are_octets, octets_in}
 
--- a whole group stands there
-three : (l : List ℕ) (i : ℕ) → i + 2 < length l → drop i l ≡ get_or l i 0 ∷ get_or l (i + 1) 0 ∷ get_or l (i + 2) 0 ∷ drop (i + 3) l
-three l i h =
-    rw (add-one, add-two, add-three)
-    (drop-cons l i 0 (omega arith) ∙ ap (λ (x : List ℕ). get_or l i 0 ∷ x) (drop-cons l (suc i) 0 (omega arith) ∙ ap (λ (x : List ℕ). get_or l (suc i) 0 ∷ x) (drop-cons l (suc (suc i)) 0 (omega arith))))
+-- a group is a space and two digits
+abbrev pub is_group : List ℕ → Bool
+is_group g = is_octet (get_or g 0 0) (get_or g 1 0) (get_or g 2 0)
 
--- a part of one does not
-cut : (l : List ℕ) → 0 < length l → length l < 3 → false ≡ are_octets l
+abbrev pub octet_of_group : List ℕ → ℕ
+octet_of_group g = octet_of (get_or g 1 0) (get_or g 2 0)
+
+swap : (a b c : Bool) → (a && (b && c)) ≡ (b && (a && c))
+swap true b c = refl
+swap false true c = refl
+swap false false c = refl
+
+thirds : (n : ℕ) → ((suc (suc (suc n))) / 3 ≡ suc (n / 3)) × ((suc (suc (suc n))) % 3 ≡ n % 3)
+thirds n = (omega arith, omega arith)
+
+pub octets_are : (l : List ℕ) → octets_in l ≡ map octet_of_group (first_chunks 3 (length l / 3) l)
+unfolding octets_in
+octets_are [] = refl
+octets_are (s ∷ []) = refl
+octets_are (s ∷ a ∷ []) = refl
+octets_are (s ∷ a ∷ b ∷ l) = rw ((thirds (length l)).0) (ap (λ (x : List ℕ). octet_of a b ∷ x) (octets_are l))
+
+pub groups_are : (l : List ℕ) → are_octets l ≡ (eqb (length l % 3) 0 && list_all is_group (first_chunks 3 (length l / 3) l))
 unfolding are_octets
-cut [] h k = absurd (omega arith)
-cut (s ∷ []) h k = refl
-cut (s ∷ a ∷ []) h k = refl
-cut (s ∷ a ∷ b ∷ l) h k = absurd (omega arith)
+groups_are [] = refl
+groups_are (s ∷ []) = refl
+groups_are (s ∷ a ∷ []) = refl
+groups_are (s ∷ a ∷ b ∷ l) =
+    let t = thirds (length l) in
+    rw (t.0, t.1, groups_are l) (swap (is_octet s a b) (eqb (length l % 3) 0) (list_all is_group (first_chunks 3 (length l / 3) l)))
 
-module _ (l : List ℕ) (i : ℕ) (st : are_octets l ≡ are_octets (drop i l)) where
-  pub through : length l ≤ i → true ≡ are_octets l
-  unfolding are_octets
-  through h = sym (st ∙ ap are_octets (drop_of_length-le l h))
+module _ (l : List ℕ) (rest : ℕ) (e : rest ≡ length l % 3) (r : Bool) where
+  pub whole : rest ≡ 0 → r ≡ list_all is_group (first_chunks 3 (length l / 3) l) → r ≡ are_octets l
+  whole z h = h ∙ sym (groups_are l ∙ rw (← e, z) refl)
 
-  pub short : i < length l → length l - i < 3 → false ≡ are_octets l
-  short h k = cut (drop i l) (rw length-drop (omega arith)) (rw length-drop k) ∙ sym st
+  pub cut : (rest ≡ 0 → ⊥) → false ≡ are_octets l
+  cut z = sym (groups_are l ∙ rw (← e, ne_eqb rest 0 z) refl)
 
-  module _ (h : i < length l) (k : 3 ≤ length l - i) (b : Bool) (g : b ≡ is_octet (get_or l i 0) (get_or l (i + 1) 0) (get_or l (i + 2) 0)) where
-    step : are_octets l ≡ (b && are_octets (drop (i + 3) l))
-    unfolding are_octets
-    step = st ∙ ap are_octets (three l i (omega arith)) ∙ rw (← g) refl
+-- ---- each octet goes to the next place
 
-    pub stray : b ≡ false → false ≡ are_octets l
-    stray f = sym (step ∙ rw f refl)
+sets_more : (l : List ℕ) (i : ℕ) (vs : List ℕ) (v : ℕ) → set (sets l i vs) (i + length vs) v ≡ sets l i (vs ++ (v ∷ []))
+sets_more l i [] v = rw add-zero refl
+sets_more l i (w ∷ vs) v = rw (add-suc, ← suc-add) (sets_more (set l i w) (suc i) vs v)
 
-    pub goes_on : b ≡ true → are_octets l ≡ are_octets (drop (i + 3) l)
-    goes_on f = step ∙ rw f refl
+pub stores : (out : List ℕ) (groups : List (List ℕ)) (n : ℕ) (d : List ℕ) → n < length groups
+    → set (sets out 0 (map octet_of_group (take n groups))) n (octet_of_group (get_or groups n d)) ≡ sets out 0 (map octet_of_group (take (n + 1) groups))
+stores out groups n d h =
+    let long : length (map octet_of_group (take n groups)) ≡ n = rw length-map (length-take-le n groups (omega arith)) in
+    rw (take_more groups n d h, map-append) (rw (zero-add, long) at (sets_more out 0 (map octet_of_group (take n groups)) (octet_of_group (get_or groups n d))))
 
--- ---- the stores to come and those that were made are the whole run
-
--- each group is whole, so another is there
-whole : (l : List ℕ) → are_octets l ≡ true → 0 < length l → 3 ≤ length l
-unfolding are_octets
-whole [] e h = absurd (omega arith)
-whole (s ∷ []) e h = absurd (subst T (sym e) tt)
-whole (s ∷ a ∷ []) e h = absurd (subst T (sym e) tt)
-whole (s ∷ a ∷ b ∷ l) e h = omega arith
-
-tail_right : (s a b : ℕ) (l : List ℕ) → are_octets (s ∷ a ∷ b ∷ l) ≡ true → are_octets l ≡ true
-unfolding are_octets
-tail_right s a b l e = and_right (is_octet s a b) (are_octets l) e
-
-pub record Storing (l before out : List ℕ) (n i : ℕ) : Type 0 where
-  pub right : are_octets (drop i l) ≡ true
-  pub count : n + length (octets_in (drop i l)) ≡ length (octets_in l)
-  pub room : i ≡ 3 * n
-  pub same : length out ≡ length before
-  pub stored : sets out n (octets_in (drop i l)) ≡ sets before 0 (octets_in l)
-
-pub first : (l before : List ℕ) → are_octets l ≡ true → Storing l before before 0 0
-first l before h = record { right = h; count = omega arith; room = omega arith; same = refl; stored = refl }
-
-module _ (l before out : List ℕ) (n i : ℕ) (st : Storing l before out n i) where
-  pub full : length l ≤ i → (n ≡ length (octets_in l)) × (out ≡ sets before 0 (octets_in l))
-  unfolding octets_in
-  full h =
-      let e : drop i l ≡ [] = drop_of_length-le l h in
-      let z : length (octets_in (drop i l)) ≡ 0 = ap (λ (x : List ℕ). length (octets_in x)) e in
-      let k = st.count in
-      (omega arith, rw e at st.stored)
-
-  module _ (h : i < length l) where
-    pub group : i + 2 < length l
-    group = let e = rw length-drop at (whole (drop i l) st.right (rw length-drop (omega arith))) in omega arith
-
-    pub stores : (v : ℕ) → v ≡ octet_at (i + 1) l → Storing l before (set out n v) (n + 1) (i + 3)
-    unfolding octets_in octet_at
-    stores v e =
-        let g = group in
-        let d = three l i g in
-        let s = st.stored in
-        let k = st.count in
-        let r = st.room in
-        let j : i + 1 + 1 ≡ i + 2 = omega arith in
-        let w : v ≡ octet_of (get_or l (i + 1) 0) (get_or l (i + 2) 0) = e ∙ ap (λ (x : ℕ). octet_of (get_or l (i + 1) 0) (get_or l x 0)) j in
-        let z : length (octets_in (drop i l)) ≡ suc (length (octets_in (drop (i + 3) l))) = ap (λ (x : List ℕ). length (octets_in x)) d in
-        record {
-          right = tail_right (get_or l i 0) (get_or l (i + 1) 0) (get_or l (i + 2) 0) (drop (i + 3) l) (rw d at st.right);
-          count = omega arith;
-          room = omega arith;
-          same = simp length-set st.same;
-          stored = rw (add-one n, w) (rw d at s);
-        }
+pub stored : (l out : List ℕ) (groups : List (List ℕ)) (n : ℕ) → groups ≡ first_chunks 3 (length l / 3) l → length groups ≤ n
+    → (length groups ≡ length (octets_in l)) × (sets out 0 (map octet_of_group (take n groups)) ≡ sets out 0 (octets_in l))
+stored l out groups n e h =
+    let all : map octet_of_group groups ≡ octets_in l = ap (map octet_of_group) e ∙ sym (octets_are l) in
+    (sym (length-map groups octet_of_group) ∙ ap length all, rw (take_all n groups h, all) refl)

@@ -1,26 +1,11 @@
 -- No second outcome: each promise says all of what it gives.
 -- Assumes nothing.
-use mathlib.Core.Path.{◌≡◌, refl, sym, ap, ◌∙◌}
-use mathlib.Core.Option.{Option, none, some}
-use Prim.Native.Nat.{ℕ}
+use mathlib.Core.Path.{sym, ◌∙◌}
 use Rattle.text.proofs.Outcomes.{one_printing}
-use Rattle.script.specs.declared.parse.Number.{Number}
-use Rattle.script.specs.declared.parse.Number.TheVariants.{Is, Not}
-use Rattle.script.specs.Parse.{counted}
 use Rattle.script.specs.Theorems.{OneCount, OneSetup, OneParsing, OnePrintedOutcome, OnePrintedBad, OnePrintedWhy}
 
--- the number that says a count
-number_of : Option ℕ → Number
-number_of none = Not
-number_of (some n) = Is n
-
-number_back : (r : Number) → number_of (counted r) ≡ r
-unfolding number_of
-number_back (Is n) = refl
-number_back Not = refl
-
 pub one_count : OneCount
-one_count l r s p q = sym (number_back r) ∙ ap number_of (p.says ∙ sym q.says) ∙ number_back s
+one_count l r s p q = p.says ∙ sym q.says
 
 pub one_setup : OneSetup
 one_setup l r s p q = p ∙ sym q

@@ -1,77 +1,46 @@
 -- Three voltages: each a decimal up to 65,535, and a space behind the first two.
 -- Assumes nothing.
-use mathlib.Core.Path.{◌≡◌, refl, sym, ap, ◌∙◌, subst}
-use mathlib.Core.Bool.{true, false, and-false}
-use mathlib.Core.List.{List, [], ◌∷◌}
-use mathlib.Core.Option.{none, some}
-use Prim.Native.Nat.{ℕ, ◌+◌, ◌-◌, ◌<◌, ◌≤◌}
+use mathlib.Core.Path.{◌≡◌, refl, sym, ap, ◌∙◌}
+use mathlib.Core.Bool.{false}
+use mathlib.Core.List.{List, ◌∷◌}
+use Rattle.std.specs.Prelude.{None, Some, Result, Ok, Err}
+use Rattle.std.specs.Result.{result_ok, OkIff}
+use Prim.Native.Nat.{ℕ, ◌+◌, ◌<◌, ◌≤◌}
+use native.Mathlib.Omega.{arith}
 use borrow.Author.Tests.{le-leb, lt-leb}
 use lib.Dec.{eqb}
-use lib.ListN.{length, take, drop, get_or}
-use Rattle.script.specs.declared.parse.Number.{Number}
-use Rattle.script.specs.declared.parse.Number.TheVariants.{Is, Not}
+use native.Mathlib.Numerals.{add-one}
+use lib.ListN.{length, drop, get_or, length-drop, get_or-eq_default}
+use lib.Seq.{drop-cons}
 use Rattle.script.specs.Text.{digits_in}
-use Rattle.script.specs.Parse.{count_of, number_part, counted, AtMost, ReadsMillivolts, millivolts_of, is_spaced, next_part, sensed, voltages_of}
-use Rattle.script.proofs.Numbers.{is_count, no_count}
-use Rattle.script.proofs.Lines.{rest}
+use Rattle.script.specs.Parse.{count_of, rest_part, millivolts_of, is_spaced, next_part}
 
 -- ---- one voltage
 
-module _ (l : List ℕ) (r : Number) (e : counted r ≡ count_of l) where
-  pub low : (n : ℕ) → r ≡ Is n → n ≤ 65535 → some n ≡ millivolts_of l
-  unfolding millivolts_of
-  low n g h = rw (is_count l r e n g, le-leb n 65535 h) refl
+pub no_volts : (l : List ℕ) → None ≡ count_of l → None ≡ millivolts_of l
+unfolding millivolts_of
+no_volts l e = rw (← e) refl
 
-  pub high : (n : ℕ) → r ≡ Is n → 65535 < n → none ≡ millivolts_of l
-  unfolding millivolts_of
-  high n g h = rw (is_count l r e n g, lt-leb n 65535 h) refl
-
-  pub none_there : r ≡ Not → none ≡ millivolts_of l
-  unfolding millivolts_of
-  none_there g = rw (no_count l r e g) refl
-
-module _ (l : List ℕ) (r : Number) (e : ReadsMillivolts l r) where
-  pub is_volts : (n : ℕ) → r ≡ Is n → millivolts_of l ≡ some n
-  is_volts n g = sym e.says ∙ ap counted g
-
-  pub few_volts : (n : ℕ) → r ≡ Is n → n ≤ 65535
-  few_volts n g = subst (AtMost 65535) g e.few
-
-  pub no_volts : r ≡ Not → millivolts_of l ≡ none
-  no_volts g = sym e.says ∙ ap counted g
+-- the code's `u16::try_from(v).ok()`
+pub volts : {E : Type 0} (l : List ℕ) (v : ℕ) → Some v ≡ count_of l → (r : Result ℕ E) → OkIff r (v < 65536) v → result_ok r ≡ millivolts_of l
+unfolding millivolts_of
+volts l v e (Ok x) h = rw (← e, h.1, le-leb v 65535 (omega arith)) refl
+volts l v e (Err x) h = rw (← e, lt-leb v 65535 (omega arith)) refl
 
 -- ---- the three of a line
 
-nothing_behind : (l : List ℕ) → get_or l (length l) 0 ≡ 0
-nothing_behind [] = refl
-nothing_behind (x ∷ l) = nothing_behind l
+behind : (l : List ℕ) (n c : ℕ) (m : List ℕ) → drop n l ≡ c ∷ m → (get_or l n 0 ≡ c) × (drop (n + 1) l ≡ m)
+behind l n c m e =
+    let h : n < length l = omega (arith, ap length e, length-drop n l) in
+    let d = sym (drop-cons l n 0 h) ∙ e in
+    (cc, rw add-one (cc))
 
-pub no_space : (l : List ℕ) (n : ℕ) → n ≡ length l → false ≡ eqb (get_or l n 0) 0x20
-no_space l n e = rw (e, nothing_behind l) refl
+-- the character behind the digits
+pub spaced : (l : List ℕ) (c : ℕ) (m : List ℕ) → rest_part l ≡ c ∷ m → (is_spaced l ≡ eqb c 0x20) × (next_part l ≡ m)
+unfolding rest_part is_spaced next_part
+spaced l c m e = let b = behind l (digits_in l) c m e in (rw b.0 refl, b.1)
 
-module _ (s : List ℕ) (n : ℕ) (en : n ≡ digits_in s) where
-  pub no_second : eqb (get_or s n 0) 0x20 ≡ false → voltages_of s ≡ none
-  unfolding voltages_of is_spaced
-  no_second h = rw (← en, h) refl
-
-  module _ (h : eqb (get_or s n 0) 0x20 ≡ true) where
-    abbrev t : List ℕ
-    t = take (length s - (n + 1)) (drop (n + 1) s)
-
-    behind_it : next_part s ≡ t
-    unfolding next_part
-    behind_it = rw (← en) (sym (rest s (n + 1)))
-
-    module _ (m : ℕ) (em : m ≡ digits_in t) where
-      last : next_part t ≡ take (length t - (m + 1)) (drop (m + 1) t)
-      unfolding next_part
-      last = rw (← em) (sym (rest t (m + 1)))
-
-      pub no_third : eqb (get_or t m 0) 0x20 ≡ false → voltages_of s ≡ none
-      unfolding voltages_of is_spaced
-      no_third k = rw (behind_it, ← em, k, and-false) refl
-
-      pub three : eqb (get_or t m 0) 0x20 ≡ true
-          → voltages_of s ≡ sensed (millivolts_of (take n s)) (millivolts_of (take m t)) (millivolts_of (take (length t - (m + 1)) (drop (m + 1) t)))
-      unfolding voltages_of is_spaced number_part
-      three k = rw (behind_it, ← en, ← em, h, k, last) refl
+-- or there is none
+pub unspaced : (l : List ℕ) → length (rest_part l) ≡ 0 → is_spaced l ≡ false
+unfolding rest_part is_spaced
+unspaced l h = let k : length l ≤ digits_in l = omega (arith, length-drop (digits_in l) l) in rw (get_or-eq_default l 0 k) refl

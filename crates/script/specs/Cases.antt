@@ -1,6 +1,6 @@
 -- Lines of 01's example, and lines that are near them.
 -- Assumes nothing.
-use Rattle.std.specs.Prelude.{◌≡◌, refl, true, false, [], ◌∷◌}
+use Rattle.std.specs.Prelude.{◌≡◌, refl, true, false, [], ◌∷◌, Some, None}
 use Rattle.std.proofs.Math.Option.{none, some}
 use Rattle.text.specs.Ascii.{text}
 use Rattle.text.specs.Hex.{is_hex, hex_value, octet_of, digit_of, hex_of}
@@ -8,45 +8,45 @@ use Rattle.text.specs.Put.{decimal_of, onto, value_of, spaced, octets_text}
 use Rattle.machine.specs.Events.{write, read, pass, hard_reset, packet, sense, done, value, no}
 use Rattle.machine.specs.Why.{refused, is_good_crc}
 use Rattle.script.specs.Text.{octet_at, suits, fits, is_digit, all_digits, is_decimal, digits_in, is_octet, are_octets, octets_in}
-use Rattle.script.specs.Parse.{count_of, number_part, rest_part, packet_of, millivolts_of, is_spaced, next_part, voltages_of, form_of, event_of, setup_of}
+use Rattle.script.specs.Parse.{count_of, number_part, rest_part, packet_of, millivolts_of, is_spaced, next_part, voltages_of, lettered_of, form_of, event_of, setup_of}
 use Rattle.script.specs.Print.{reply_text, outcome_text, bad_line_text, reason_text, why_text}
 
 pub in_form :
-    (count_of (text "2") ≡ some 2)
-    × (setup_of (text "06 04") ≡ some (write 73 0x06 0x04))
-    × (event_of (text "w 09 46") ≡ some (write 73 0x09 0x46))
-    × (event_of (text "r 3E") ≡ some (read 73 0x3E))
-    × (event_of (text "t 1000") ≡ some (pass 73 1000))
-    × (event_of (text "h") ≡ some (hard_reset 73))
-    × (event_of (text "p 0 12 AB") ≡ some (packet 73 0 (0x12 ∷ 0xAB ∷ [])))
-    × (event_of (text "p 12") ≡ some (packet 73 12 []))
-    × (event_of (text "v 0 1230 65535") ≡ some (sense 73 0 1230 65535))
-    × (event_of (text "v 0000200 7 4000") ≡ some (sense 73 200 7 4000))
-unfolding is_hex hex_value octet_of octet_at suits fits is_digit all_digits is_decimal onto value_of digits_in is_octet are_octets octets_in count_of number_part rest_part packet_of millivolts_of is_spaced next_part voltages_of form_of event_of setup_of
+    (count_of (text "2") ≡ Some 2)
+    × (setup_of (text "06 04") ≡ Some (write 73 0x06 0x04))
+    × (event_of (text "w 09 46") ≡ Some (write 73 0x09 0x46))
+    × (event_of (text "r 3E") ≡ Some (read 73 0x3E))
+    × (event_of (text "t 1000") ≡ Some (pass 73 1000))
+    × (event_of (text "h") ≡ Some (hard_reset 73))
+    × (event_of (text "p 0 12 AB") ≡ Some (packet 73 0 (0x12 ∷ 0xAB ∷ [])))
+    × (event_of (text "p 12") ≡ Some (packet 73 12 []))
+    × (event_of (text "v 0 1230 65535") ≡ Some (sense 73 0 1230 65535))
+    × (event_of (text "v 0000200 7 4000") ≡ Some (sense 73 200 7 4000))
+unfolding is_hex hex_value octet_of octet_at suits fits is_digit all_digits is_decimal onto value_of digits_in is_octet are_octets octets_in count_of number_part rest_part packet_of millivolts_of is_spaced next_part voltages_of lettered_of form_of event_of setup_of
 in_form = (refl, refl, refl, refl, refl, refl, refl, refl, refl, refl)
 
 pub out_of_form :
-    (count_of (text "12345678") ≡ none)
-    × (count_of (text " 2") ≡ none)
-    × (setup_of (text "06  04") ≡ none)
-    × (event_of (text "w 9 46") ≡ none)
-    × (event_of (text "r 3e") ≡ none)
-    × (event_of (text "r 3E ") ≡ none)
-    × (event_of (text "t ") ≡ none)
-    × (event_of (text "t 12345678") ≡ none)
-    × (event_of (text "p 0 1") ≡ none)
-    × (event_of (text "p  0") ≡ none)
-    × (event_of (text "v 65536 0 0") ≡ none)
-    × (event_of (text "v 0 65536 0") ≡ none)
-    × (event_of (text "v 0 0 65536") ≡ none)
-    × (event_of (text "v 1 2") ≡ none)
-    × (event_of (text "v 1 2 3 4") ≡ none)
-    × (event_of (text "v 1  2 3") ≡ none)
-    × (event_of (text "v 1 2 3 ") ≡ none)
-    × (event_of (text "v 00000001 2 3") ≡ none)
-    × (event_of (text "H") ≡ none)
-    × (event_of (text "") ≡ none)
-unfolding is_hex hex_value octet_of octet_at suits fits is_digit all_digits is_decimal onto value_of digits_in is_octet are_octets octets_in count_of number_part rest_part packet_of millivolts_of is_spaced next_part voltages_of form_of event_of setup_of
+    (count_of (text "12345678") ≡ None)
+    × (count_of (text " 2") ≡ None)
+    × (setup_of (text "06  04") ≡ None)
+    × (event_of (text "w 9 46") ≡ None)
+    × (event_of (text "r 3e") ≡ None)
+    × (event_of (text "r 3E ") ≡ None)
+    × (event_of (text "t ") ≡ None)
+    × (event_of (text "t 12345678") ≡ None)
+    × (event_of (text "p 0 1") ≡ None)
+    × (event_of (text "p  0") ≡ None)
+    × (event_of (text "v 65536 0 0") ≡ None)
+    × (event_of (text "v 0 65536 0") ≡ None)
+    × (event_of (text "v 0 0 65536") ≡ None)
+    × (event_of (text "v 1 2") ≡ None)
+    × (event_of (text "v 1 2 3 4") ≡ None)
+    × (event_of (text "v 1  2 3") ≡ None)
+    × (event_of (text "v 1 2 3 ") ≡ None)
+    × (event_of (text "v 00000001 2 3") ≡ None)
+    × (event_of (text "H") ≡ None)
+    × (event_of (text "") ≡ None)
+unfolding is_hex hex_value octet_of octet_at suits fits is_digit all_digits is_decimal onto value_of digits_in is_octet are_octets octets_in count_of number_part rest_part packet_of millivolts_of is_spaced next_part voltages_of lettered_of form_of event_of setup_of
 out_of_form = (refl, refl, refl, refl, refl, refl, refl, refl, refl, refl, refl, refl, refl, refl, refl, refl, refl, refl, refl, refl)
 
 pub printed :

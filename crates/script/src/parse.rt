@@ -1,12 +1,12 @@
 // A line of input to what it means (01, 'On the bench table').
-ghost use Rattle.std.specs.Prelude.{◌≡◌, true, ◌+◌, ◌*◌, ◌-◌, ◌≤◌, ◌<◌, eqb, length, get_or};
+ghost use Rattle.std.specs.Prelude.{◌≡◌, true, false, ◌+◌, ◌*◌, ◌≤◌, ◌<◌, length, MatchOption};
 ghost use Rattle.std.proofs.lemmas.List.Edits.{sets};
-ghost use Rattle.script.specs.Text.{octet_at, suits, fits, is_digit, digits_in, is_octet, are_octets, octets_in};
-ghost use Rattle.script.specs.Parse.{count_of, timed, packet_of, millivolts_of, sensed, voltages_of, event_of, ReadsCount, ReadsMillivolts, line_of, Parses, ParsesSetup};
+ghost use Rattle.script.specs.Text.{octet_at, suits, fits, digits_in, is_octet, are_octets, octets_in};
+ghost use Rattle.script.specs.Parse.{count_of, timed, packet_of, millivolts_of, number_part, rest_part, is_spaced, next_part, sensed, voltages_of, lettered_of, form_of, event_of, ReadsCount, ReadsMillivolts, line_of, Parses, ParsesSetup};
 
 use text::hex::{is_hex, octet_of};
 
-// What a line says; a packet's octets stand beside it, at the beginning of those lent.
+// What a line says; a packet's octets stand beside it, at the beginning of those lent. A packet's kind is the number that stands there.
 #[derive(Clone, Copy)]
 pub enum Line {
     Write(u8, u8),
@@ -15,16 +15,10 @@ pub enum Line {
     HardReset,
     Packet { kind: u32, count: usize },
     Sense(u16, u16, u16),
-    Bad,
-}
-
-#[derive(Clone, Copy)]
-pub enum Number {
-    Is(u32),
-    Not,
 }
 
 // The octet that the two characters from `i` on write.
+#[tactic(auto, unfolding(crate::specs::Text::octet_at))]
 fn octet_at(line: &[u8], i: usize) -> u8
     requires { i + 1 < length line.now }
     ensures { result ≡ octet_at i line.now }
@@ -33,107 +27,63 @@ fn octet_at(line: &[u8], i: usize) -> u8
 }
 
 // A character of a mask: # for any hex digit, each other for itself.
+#[tactic(auto, using(std::proofs::lemmas::Bool::Decides::nat_tests), unfolding(crate::specs::Text::suits))]
 fn suits(m: u8, c: u8) -> bool
     ensures { result ≡ suits m c }
 {
     if m == b'#' { is_hex(c) } else { m == c }
 }
 
-// Whether a line has the form that a mask shows.
+// Whether a line has the form that a mask shows: a mask reads as the line does, where a slice pattern would need a guard `is_hex` for each `#`.
 fn fits(mask: &[u8], line: &[u8]) -> bool
     ensures { result ≡ fits mask.now line.now }
 {
-    if mask.len() != line.len() {
-        return false;
-    }
-    let mut i = 0;
-    while i < mask.len() {
-        if !suits(mask[i], line[i]) {
-            return false;
-        }
-        i += 1;
-    }
-    true
-}
-
-fn is_digit(c: u8) -> bool
-    ensures { result ≡ is_digit c }
-{
-    match c {
-        b'0'..=b'9' => true,
-        _ => false,
-    }
-}
-
-// The number that a digit makes of those before it.
-fn with_digit(v: u32, c: u8) -> u32
-    requires { (v < 1000000) × (48 ≤ c) × (c ≤ 57) }
-    ensures { result ≡ 10 * v + (c - 48) }
-{
-    10 * v + ((c - 48) as u32)
+    mask.len() == line.len() && mask.iter().zip(line).all(|(m, c)| suits(*m, *c))
 }
 
 // A count, a time or a kind: 1 to 7 digits.
-pub fn decimal(s: &[u8]) -> Number
+#[tactic(auto, using(crate::proofs::Numbers::too_few, crate::proofs::Numbers::too_many, crate::proofs::Numbers::begin, crate::proofs::Numbers::bound))]
+pub fn decimal(s: &[u8]) -> Option<u32>
     ensures { ReadsCount s.now result }
 {
-    if s.len() < 1 {
-        return Number::Not;
+    if s.is_empty() || s.len() > 7 {
+        return None;
     }
-    if s.len() > 7 {
-        return Number::Not;
+    let mut v = 0;
+    for c in s {
+        v = 10 * v + char::from(*c).to_digit(10)?;
     }
-    let mut v: u32 = 0;
-    let mut i = 0;
-    while i < s.len() {
-        let c = s[i];
-        if !is_digit(c) {
-            return Number::Not;
-        }
-        v = with_digit(v, c);
-        i += 1;
-    }
-    Number::Is(v)
+    Some(v)
 }
 
 // How many digits a line begins with.
 fn digits_in(s: &[u8]) -> usize
     ensures { (result ≡ digits_in s.now) × (result ≤ length s.now) }
 {
-    let mut i = 0;
-    while i < s.len() {
-        if !is_digit(s[i]) {
-            return i;
-        }
-        i += 1;
-    }
-    i
+    s.iter().take_while(|c| c.is_ascii_digit()).count()
+}
+
+// The digits that a line begins with, and what stands behind them.
+#[tactic(auto, unfolding(crate::specs::Parse::number_part, crate::specs::Parse::rest_part))]
+fn split_digits(s: &[u8]) -> (&[u8], &[u8])
+    ensures { (result.0.now ≡ number_part s.now) × (result.1.now ≡ rest_part s.now) }
+{
+    s.split_at(digits_in(s))
 }
 
 // A space and two hex digits.
+#[tactic(auto, using(std::proofs::lemmas::Bool::Decides::nat_tests), unfolding(crate::specs::Text::is_octet))]
 fn is_octet(s: u8, a: u8, b: u8) -> bool
     ensures { result ≡ is_octet s a b }
 {
-    if s != b' ' {
-        return false;
-    }
-    if is_hex(a) { is_hex(b) } else { false }
+    s == b' ' && is_hex(a) && is_hex(b)
 }
 
 fn are_octets(s: &[u8]) -> bool
     ensures { result ≡ are_octets s.now }
 {
-    let mut i = 0;
-    while i < s.len() {
-        if s.len() - i < 3 {
-            return false;
-        }
-        if !is_octet(s[i], s[i + 1], s[i + 2]) {
-            return false;
-        }
-        i += 3;
-    }
-    true
+    let (groups, rest) = s.as_chunks::<3>();
+    rest.is_empty() && groups.iter().all(|g| is_octet(g[0], g[1], g[2]))
 }
 
 // The octets, to the beginning of those lent. All are looked at before, so that a line out of form writes nothing.
@@ -141,143 +91,125 @@ fn store_octets(s: &[u8], octets: &mut [u8]) -> usize
     requires { (are_octets s.now ≡ true) × (length s.now ≤ 3 * length octets.old) }
     ensures { (result ≡ length (octets_in s.now)) × (octets.new ≡ sets octets.old 0 (octets_in s.now)) }
 {
-    let mut n = 0;
-    let mut i = 0;
-    while i < s.len() {
-        octets[n] = octet_at(s, i + 1);
-        n += 1;
-        i += 3;
+    let (groups, _) = s.as_chunks::<3>();
+    // By the place: behind `octets.iter_mut().zip(groups)` a proof knows how many octets are lent, and none that is written.
+    for (n, g) in groups.iter().enumerate() {
+        octets[n] = octet_of(g[1], g[2]);
     }
-    n
+    groups.len()
 }
 
 // What follows `t `.
-fn time(s: &[u8]) -> Line
+fn time(s: &[u8]) -> Option<Line>
     ensures { result ≡ line_of (timed (count_of s.now)) }
 {
-    match decimal(s) {
-        Number::Is(t) => Line::Time(t),
-        Number::Not => Line::Bad,
-    }
+    let t = decimal(s)?;
+    Some(Line::Time(t))
 }
 
 // What follows `p `: the kind, and its octets.
-fn packet(s: &[u8], octets: &mut [u8]) -> Line
+fn packet(s: &[u8], octets: &mut [u8]) -> Option<Line>
     requires { (length s.now ≤ 253) × (84 ≤ length octets.old) }
     ensures { Parses (packet_of s.now) octets.old result octets.new }
 {
-    let n = digits_in(s);
-    match decimal(&s[..n]) {
-        Number::Is(kind) => {
-            let rest = &s[n..];
-            if are_octets(rest) {
-                let count = store_octets(rest, octets);
-                return Line::Packet { kind, count };
-            }
-            Line::Bad
-        }
-        Number::Not => Line::Bad,
+    let (digits, rest) = split_digits(s);
+    let kind = decimal(digits)?;
+    if !are_octets(rest) {
+        return None;
     }
+    let count = store_octets(rest, octets);
+    Some(Line::Packet { kind, count })
 }
 
-// The largest voltage that an event may carry (02, A1).
-const MOST_MILLIVOLTS: u32 = 65535;
-
-fn millivolts(s: &[u8]) -> Number
+// A voltage that an event may carry (02, A1).
+fn millivolts(s: &[u8]) -> Option<u16>
     ensures { ReadsMillivolts s.now result }
 {
-    match decimal(s) {
-        Number::Is(v) => {
-            if v <= MOST_MILLIVOLTS {
-                return Number::Is(v);
-            }
-            Number::Not
-        }
-        Number::Not => Number::Not,
-    }
+    let v = decimal(s)?;
+    u16::try_from(v).ok()
 }
 
-// Whether a space stands behind the first `n` characters.
-fn is_spaced(s: &[u8], n: usize) -> bool
-    requires { n ≤ length s.now }
-    ensures { (result ≡ eqb (get_or s.now n 0) 0x20) × (result ≡ true → n < length s.now) }
+// The digits that a line begins with, and what stands behind the space after them.
+#[tactic(auto, using(crate::proofs::Voltages::spaced, crate::proofs::Voltages::unspaced))]
+fn digits_and_rest(s: &[u8]) -> Option<(&[u8], &[u8])>
+    ensures { MatchOption result (is_spaced s.now ≡ false) (λ p. (is_spaced s.now ≡ true) × (p.0.now ≡ number_part s.now) × (p.1.now ≡ next_part s.now)) }
 {
-    if n == s.len() {
-        return false;
+    let (digits, rest) = split_digits(s);
+    let (space, behind) = rest.split_first()?;
+    if *space != b' ' {
+        return None;
     }
-    s[n] == b' '
-}
-
-fn three_voltages(cc1: &[u8], cc2: &[u8], vbus: &[u8]) -> Line
-    ensures { result ≡ line_of (sensed (millivolts_of cc1.now) (millivolts_of cc2.now) (millivolts_of vbus.now)) }
-{
-    let Number::Is(x) = millivolts(cc1) else {
-        return Line::Bad;
-    };
-    let Number::Is(y) = millivolts(cc2) else {
-        return Line::Bad;
-    };
-    let Number::Is(z) = millivolts(vbus) else {
-        return Line::Bad;
-    };
-    Line::Sense(x as u16, y as u16, z as u16)
+    Some((digits, behind))
 }
 
 // What follows `v `: CC1, CC2 and VBUS.
-fn voltages(s: &[u8]) -> Line
+#[tactic(auto, unfolding(crate::specs::Parse::voltages_of))]
+fn voltages(s: &[u8]) -> Option<Line>
     ensures { result ≡ line_of (voltages_of s.now) }
 {
-    let n = digits_in(s);
-    if is_spaced(s, n) {
-        let at = n + 1;
-        let rest = &s[at..];
-        let m = digits_in(rest);
-        if is_spaced(rest, m) {
-            let last = m + 1;
-            return three_voltages(&s[..n], &rest[..m], &rest[last..]);
-        }
+    let (cc1, rest) = digits_and_rest(s)?;
+    let (cc2, vbus) = digits_and_rest(rest)?;
+    let cc1 = millivolts(cc1)?;
+    let cc2 = millivolts(cc2)?;
+    let vbus = millivolts(vbus)?;
+    Some(Line::Sense(cc1, cc2, vbus))
+}
+
+// What a line says that begins with a letter and a space, by the letter.
+#[tactic(auto, unfolding(crate::specs::Parse::lettered_of))]
+fn lettered(line: &[u8], octets: &mut [u8]) -> Option<Line>
+    requires { (length line.now ≤ 255) × (84 ≤ length octets.old) }
+    ensures { Parses (lettered_of line.now) octets.old result octets.new }
+{
+    let (head, rest) = line.split_at_checked(2)?;
+    if fits(b"t ", head) {
+        return time(rest);
     }
-    Line::Bad
+    if fits(b"p ", head) {
+        return packet(rest, octets);
+    }
+    if fits(b"v ", head) {
+        return voltages(rest);
+    }
+    None
+}
+
+// What a line of at most 255 characters says, by its form.
+#[tactic(auto, using(crate::proofs::Masks::fits_length), unfolding(crate::specs::Parse::form_of))]
+fn form(line: &[u8], octets: &mut [u8]) -> Option<Line>
+    requires { (length line.now ≤ 255) × (84 ≤ length octets.old) }
+    ensures { Parses (form_of line.now) octets.old result octets.new }
+{
+    if fits(b"w ## ##", line) {
+        return Some(Line::Write(octet_at(line, 2), octet_at(line, 5)));
+    }
+    if fits(b"r ##", line) {
+        return Some(Line::Read(octet_at(line, 2)));
+    }
+    if fits(b"h", line) {
+        return Some(Line::HardReset);
+    }
+    lettered(line, octets)
 }
 
 // A line of the events. 255 characters hold at most 84 octets.
-pub fn parse_event(line: &[u8], octets: &mut [u8; 84]) -> Line
+#[tactic(auto, unfolding(crate::specs::Parse::event_of))]
+pub fn parse_event(line: &[u8], octets: &mut [u8; 84]) -> Option<Line>
     ensures { Parses (event_of line.now) octets.old result octets.new }
 {
     if line.len() > 255 {
-        return Line::Bad;
+        return None;
     }
-    if fits(b"w ## ##", line) {
-        return Line::Write(octet_at(line, 2), octet_at(line, 5));
-    }
-    if fits(b"r ##", line) {
-        return Line::Read(octet_at(line, 2));
-    }
-    if fits(b"h", line) {
-        return Line::HardReset;
-    }
-    if line.len() < 2 {
-        return Line::Bad;
-    }
-    let head = &line[..2];
-    if fits(b"t ", head) {
-        return time(&line[2..]);
-    }
-    if fits(b"p ", head) {
-        return packet(&line[2..], octets);
-    }
-    if fits(b"v ", head) {
-        return voltages(&line[2..]);
-    }
-    Line::Bad
+    form(line, octets)
 }
 
 // A line of the setup, `aa vv`.
-pub fn parse_setup(line: &[u8]) -> Line
+#[tactic(auto, using(crate::proofs::Masks::fits_length), unfolding(crate::specs::Parse::setup_of))]
+pub fn parse_setup(line: &[u8]) -> Option<Line>
     ensures { ParsesSetup line.now result }
 {
     if fits(b"## ##", line) {
-        return Line::Write(octet_at(line, 0), octet_at(line, 3));
+        return Some(Line::Write(octet_at(line, 0), octet_at(line, 3)));
     }
-    Line::Bad
+    None
 }

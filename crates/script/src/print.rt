@@ -1,13 +1,15 @@
 // An outcome, or why there was no GoodCRC, to a line of output (01, 'On the bench table'; 02, A5).
+// No `Display`: `PrintsOutcome`, `PrintsBad` and `PrintsWhy` promise the whole line where there is room, and else none of it (text/src/page.rt).
+// Room is a clause of each function and no type, since it is another for each and shrinks with every text.
 ghost use Rattle.std.specs.Prelude.{◌≡◌, ◌+◌, ◌≤◌, length};
-ghost use Rattle.text.specs.Put.{Puts};
+ghost use Rattle.text.specs.Page.{PutsOn, PrintsOn};
 ghost use Rattle.line.specs.Write.{frame_room};
 ghost use Rattle.fusb302.specs.Serves.{replied};
 ghost use Rattle.fusb302.specs.Why.{reason_of};
 ghost use Rattle.script.specs.Print.{reply_text, level_of, outcome_text, bad_line_text, reason_text, why_text, bench_line_room, PrintsOutcome, PrintsBad, PrintsWhy};
 
 use fusb302::{Reply, Why};
-use text::put::{has_room, put, put_decimal, put_octet, put_octets, put_text};
+use text::Page;
 
 // Room for any line: `no255`, a space and the level, 73 symbols, LF.
 pub const BENCH_LINE_ROOM: usize = 227;
@@ -19,19 +21,19 @@ const LINE_DIGITS: usize = 10;
 const FRAME_ROOM: usize = 73;
 
 // `ok`, `=vv`, `noN`.
-fn put_reply(reply: Reply, out: &mut [u8], at: usize) -> usize
-    requires { at + 5 ≤ length out.old }
-    ensures { Puts out.old at (reply_text (replied reply)) result out.new }
+fn put_reply(reply: Reply, page: &mut Page)
+    requires { page.old.at + 5 ≤ length page.old.octets.now }
+    ensures { PutsOn page.old (reply_text (replied reply)) page.new }
 {
     match reply {
-        Reply::Done => put_text(b"ok", out, at),
-        Reply::Value(v) => {
-            let next = put(b'=', out, at);
-            put_octet(v, out, next)
+        Ok(None) => page.put_text(b"ok"),
+        Ok(Some(v)) => {
+            page.put(b'=');
+            page.put_octet(v);
         }
-        Reply::No(n) => {
-            let next = put_text(b"no", out, at);
-            put_decimal(n as usize, 3, out, next)
+        Err(no) => {
+            page.put_text(b"no");
+            page.put_decimal(u8::from(no) as usize, 3);
         }
     }
 }
@@ -42,85 +44,82 @@ fn level(high: bool) -> u8
     if high { b'1' } else { b'0' }
 }
 
-fn put_outcome(reply: Reply, high: bool, symbols: &[u8], out: &mut [u8], at: usize) -> usize
-    requires { (length symbols.now ≤ frame_room) × (at + bench_line_room ≤ length out.old) }
-    ensures { Puts out.old at (outcome_text (replied reply) high symbols.now) result out.new }
+fn put_outcome(reply: Reply, high: bool, symbols: &[u8], page: &mut Page)
+    requires { (length symbols.now ≤ frame_room) × (page.old.at + bench_line_room ≤ length page.old.octets.now) }
+    ensures { PutsOn page.old (outcome_text (replied reply) high symbols.now) page.new }
 {
-    let a = put_reply(reply, out, at);
-    let b = put(b' ', out, a);
-    let c = put(level(high), out, b);
-    let d = put_octets(symbols, out, c);
-    put(b'\n', out, d)
+    put_reply(reply, page);
+    page.put(b' ');
+    page.put(level(high));
+    page.put_octets(symbols);
+    page.put(b'\n');
 }
 
-fn put_bad(line: u32, out: &mut [u8], at: usize) -> usize
-    requires { at + bench_line_room ≤ length out.old }
-    ensures { Puts out.old at (bad_line_text line) result out.new }
+fn put_bad(line: u32, page: &mut Page)
+    requires { page.old.at + bench_line_room ≤ length page.old.octets.now }
+    ensures { PutsOn page.old (bad_line_text line) page.new }
 {
-    let a = put_text(b"bad line ", out, at);
-    let b = put_decimal(line as usize, LINE_DIGITS, out, a);
-    put(b'\n', out, b)
+    page.put_text(b"bad line ");
+    page.put_decimal(line as usize, LINE_DIGITS);
+    page.put(b'\n');
 }
 
-fn put_reason(why: Why, out: &mut [u8], at: usize) -> usize
-    requires { at + 15 ≤ length out.old }
-    ensures { Puts out.old at (reason_text (reason_of why)) result out.new }
+fn put_reason(why: Why, page: &mut Page)
+    requires { page.old.at + 15 ≤ length page.old.octets.now }
+    ensures { PutsOn page.old (reason_text (reason_of why)) page.new }
 {
     match why {
-        Why::Refused(n) => {
-            let next = put_text(b"refused ", out, at);
-            put_decimal(n as usize, 3, out, next)
+        Why::Refused(no) => {
+            page.put_text(b"refused ");
+            page.put_decimal(u8::from(no) as usize, 3);
         }
-        Why::KindOff => put_text(b"kind off", out, at),
-        Why::CrcWrong => put_text(b"CRC wrong", out, at),
-        Why::NoRoom => put_text(b"no room", out, at),
-        Why::IsGoodCrc => put_text(b"it is a GoodCRC", out, at),
-        Why::AutoCrcOff => put_text(b"AUTO_CRC off", out, at),
-        Why::AutoPreOn => put_text(b"AUTO_PRE on", out, at),
-        Why::DriverOff => put_text(b"driver off", out, at),
-        Why::Leaves => put_text(b"leaves", out, at),
+        Why::KindOff => page.put_text(b"kind off"),
+        Why::CrcWrong => page.put_text(b"CRC wrong"),
+        Why::NoRoom => page.put_text(b"no room"),
+        Why::IsGoodCrc => page.put_text(b"it is a GoodCRC"),
+        Why::AutoCrcOff => page.put_text(b"AUTO_CRC off"),
+        Why::AutoPreOn => page.put_text(b"AUTO_PRE on"),
+        Why::DriverOff => page.put_text(b"driver off"),
+        Why::Leaves => page.put_text(b"leaves"),
     }
 }
 
-fn put_why(line: u32, why: Why, out: &mut [u8], at: usize) -> usize
-    requires { at + bench_line_room ≤ length out.old }
-    ensures { Puts out.old at (why_text line (reason_of why)) result out.new }
+fn put_why(number: u32, why: Why, page: &mut Page)
+    requires { page.old.at + bench_line_room ≤ length page.old.octets.now }
+    ensures { PutsOn page.old (why_text number (reason_of why)) page.new }
 {
-    let a = put_decimal(line as usize, LINE_DIGITS, out, at);
-    let b = put(b' ', out, a);
-    let c = put_reason(why, out, b);
-    put(b'\n', out, c)
+    page.put_decimal(number as usize, LINE_DIGITS);
+    page.put(b' ');
+    put_reason(why, page);
+    page.put(b'\n');
 }
 
 // Prints what came of a write or an event; nothing without room, nor with more symbols than any event sends.
-pub fn print_outcome(reply: Reply, high: bool, symbols: &[u8], out: &mut [u8], at: usize) -> usize
-    ensures { PrintsOutcome (replied reply) high symbols.now out.old at result out.new }
+pub fn print_outcome(reply: Reply, high: bool, symbols: &[u8], page: &mut Page)
+    ensures same_octets { page.new.octets.ghost_name ≡ page.old.octets.ghost_name }
+    ensures prints { PrintsOutcome (replied reply) high symbols.now page.old.octets.now page.old.at page.new.at page.new.octets.now }
 {
-    if symbols.len() > FRAME_ROOM {
-        return at;
+    if symbols.len() <= FRAME_ROOM && page.has_room(BENCH_LINE_ROOM) {
+        put_outcome(reply, high, symbols, page);
     }
-    if has_room(BENCH_LINE_ROOM, out.len(), at) {
-        return put_outcome(reply, high, symbols, out, at);
-    }
-    at
 }
 
 // Prints that a line is out of form or missing; without room nothing.
-pub fn print_bad(line: u32, out: &mut [u8], at: usize) -> usize
-    ensures { PrintsBad line out.old at result out.new }
+pub fn print_bad(line: u32, page: &mut Page)
+    ensures same_octets { page.new.octets.ghost_name ≡ page.old.octets.ghost_name }
+    ensures prints { PrintsBad line page.old.octets.now page.old.at page.new.at page.new.octets.now }
 {
-    if has_room(BENCH_LINE_ROOM, out.len(), at) {
-        return put_bad(line, out, at);
+    if page.has_room(BENCH_LINE_ROOM) {
+        put_bad(line, page);
     }
-    at
 }
 
 // Prints why the packet of a line gets no GoodCRC, or that one leaves; without room nothing.
-pub fn print_why(line: u32, why: Why, out: &mut [u8], at: usize) -> usize
-    ensures { PrintsWhy line (reason_of why) out.old at result out.new }
+pub fn print_why(line: u32, why: Why, page: &mut Page)
+    ensures same_octets { page.new.octets.ghost_name ≡ page.old.octets.ghost_name }
+    ensures prints { PrintsWhy line (reason_of why) page.old.octets.now page.old.at page.new.at page.new.octets.now }
 {
-    if has_room(BENCH_LINE_ROOM, out.len(), at) {
-        return put_why(line, why, out, at);
+    if page.has_room(BENCH_LINE_ROOM) {
+        put_why(line, why, page);
     }
-    at
 }

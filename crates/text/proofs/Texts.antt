@@ -1,16 +1,19 @@
 -- Texts stand one after the other, and a whole text has room.
 -- Assumes nothing.
-use mathlib.Core.Path.{◌≡◌, refl, sym, ap, ◌∙◌}
+use mathlib.Core.Path.{◌≡◌, refl, ap, ◌∙◌}
 use mathlib.Core.Bool.{Bool, true, false, cond}
 use mathlib.Core.List.{List, [], ◌∷◌, ◌++◌}
 use Prim.Native.Nat.{ℕ, zero, suc, ◌+◌, ◌*◌, ◌-◌, ◌/◌, ◌%◌, ◌<◌, ◌≤◌}
 use native.Mathlib.Nat.{add-zero, add-suc, suc-add}
 use native.Mathlib.Numerals.{add-one}
 use native.Mathlib.Omega.{arith}
-use borrow.Author.Tests.{leb-true, leb-false, lt-ltb, le-ltb, le-leb, lt-leb}
+use borrow.Author.Tests.{lt-ltb, le-ltb, le-leb}
 use lib.Dec.{ltb, leb}
 use lib.ListN.{length, drop, set, get_or, drop_of_length-le, length-append}
 use lib.Seq.{drop-cons, sets, length-sets}
+use borrow.Rule.Slice.PartMut.{put_mid}
+use Rattle.std.proofs.lemmas.List.{drop-drop, append_assoc}
+use Rattle.std.proofs.lemmas.List.Edits.{sets-eq}
 use Rattle.text.specs.Ascii.{text}
 use Rattle.text.specs.Hex.{digit_of, hex_of}
 use Rattle.text.specs.Put.{decimal_of, spaced, octets_text, Puts, has_room, Prints}
@@ -61,15 +64,12 @@ pub octet : (l : List ℕ) (at b x y : ℕ) → x ≡ digit_of (b / 16) → y �
 unfolding hex_of
 octet l at b x y p q = record { next = refl; stands = rw (add-one, p, q) refl }
 
--- ---- a text, character by character
+-- ---- a text, copied into its part of the lent octets
 
-pub turn : (out T t : List ℕ) (at i : ℕ) → i < length t → sets out (at + i) (drop i t) ≡ T → sets (set out (at + i) (get_or t i 0)) (at + (i + 1)) (drop (i + 1) t) ≡ T
-turn out T t at i h e =
-    let j : at + (i + 1) ≡ suc (at + i) = omega arith in
-    rw (j, add-one i) (rw (drop-cons t i 0) at e)
-
-pub done : (out before t : List ℕ) (at i : ℕ) → i ≤ length t → length t ≤ i → sets out (at + i) (drop i t) ≡ sets before at t → Puts before at t (at + i) out
-done out before t at i k h e = record { next = omega arith; stands = rw (drop_of_length-le t h) at e }
+pub copied : (out t now : List ℕ) (at : ℕ) → at + length t ≤ length out → now ≡ t → Puts out at t (at + length t) (put_mid at (at + length t - at) out now)
+copied out t now at h e =
+    let k : at + length t - at ≡ length t = omega arith in
+    record { next = refl; stands = rw (sets-eq t out at h, k, e) (simp (drop-drop, append_assoc)) }
 
 -- ---- decimals
 
@@ -177,12 +177,3 @@ pub octets_long : (n : ℕ) (l : List ℕ) → length l ≤ suc n → length (oc
 unfolding octets_text
 octets_long n [] h = omega arith
 octets_long n (s ∷ l) h = let k = long (s ∷ l) in omega arith
-
--- ---- the code's test, which no sum can overflow
-
-pub room_test : (need n at : ℕ) → need ≤ n → leb at (n - need) ≡ leb (at + need) n
-room_test need n at h = go (leb at (n - need)) refl
-  where
-    go : (t : Bool) → leb at (n - need) ≡ t → leb at (n - need) ≡ leb (at + need) n
-    go true e = e ∙ sym (le-leb (at + need) n (omega (arith, leb-true at (n - need) e)))
-    go false e = e ∙ sym (lt-leb (at + need) n (omega (arith, leb-false at (n - need) e)))

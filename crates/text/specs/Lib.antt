@@ -2,4 +2,5 @@
 pub mod Ascii
 pub mod Hex
 pub mod Put
+pub mod Page
 pub mod Theorems

@@ -5,4 +5,6 @@
 
 pub mod hex;
 mod lay;
-pub mod put;
+pub mod page;
+
+pub use page::Page;

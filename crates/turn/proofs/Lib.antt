@@ -1,3 +1,3 @@
 -- Laws that the functions' proofs share.
 pub mod Turning
-pub mod Outcomes
+pub mod OneWay

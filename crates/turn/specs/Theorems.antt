@@ -1,13 +1,10 @@
--- No second outcome; proofs/Outcomes.antt has the proofs.
+-- No second outcome; proofs/OneWay.antt has the proofs.
 -- Assumes nothing.
-use Rattle.std.specs.Prelude.{◌≡◌, Bool, ℕ}
-use Rattle.std.proofs.Math.Option.{Option}
+use Rattle.std.specs.Prelude.{◌≡◌, Bool, ℕ, Option}
 use Rattle.machine.specs.Events.{Event}
 use Rattle.fusb302.specs.declared.device.Device.{Device}
 use Rattle.fusb302.specs.View.{view}
-use Rattle.turn.specs.declared.Tells.{Tells}
-use Rattle.turn.specs.declared.Turned.{Turned}
-use Rattle.turn.specs.Turn.{Lent, TakesLine, TakesLineTelling}
+use Rattle.turn.specs.Turn.{Telling, Turned, Lent, TakesLine, TakesLineTelling}
 
 -- two outcomes that no caller can tell apart, in what is answered and in all that is lent
 pub record SameTurn (r s : Turned) (a b : Lent) : Type 0 where
@@ -26,5 +23,5 @@ OneTurn =
 -- whatever is told
 abbrev pub OneTelling : Type 0
 OneTelling =
-    (fits : Bool) (t : Tells) (d : Device) (e : Option Event) (number : ℕ) (before : Lent) (at : ℕ) (r s : Turned) (a b : Lent)
+    (fits : Bool) (t : Telling) (d : Device) (e : Option Event) (number : ℕ) (before : Lent) (at : ℕ) (r s : Turned) (a b : Lent)
     → TakesLineTelling fits t d e number before at r a → TakesLineTelling fits t d e number before at s b → SameTurn r s a b

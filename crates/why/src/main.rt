@@ -2,8 +2,8 @@
 #![tactic(auto)]
 
 use run::run;
-use turn::Tells;
+use turn::Reasons;
 
 fn main(rt: HostRuntime) {
-    run(rt.stdin(), rt.stdout(), Tells::Reasons);
+    run(rt.stdin(), rt.stdout(), &Reasons);
 }

@@ -3,4 +3,4 @@ use Rattle.fusb302.proofs.Sensing.{changed}
 use Rattle.fusb302.proofs.pins.changes.Goals as goal
 
 pub returns : goal.returns
-returns c = changed c.args.before c.args.now _ _ _ _ _ c.differ.ensures c.differ-2.ensures c.flag.ensures.0 c.flag-2.ensures.0 c.flag-3.ensures.0
+returns c = changed c.args.before c.args.now _ _ _ c.flag.ensures.0 c.flag-2.ensures.0 c.flag-3.ensures.0

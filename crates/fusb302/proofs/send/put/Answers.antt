@@ -1,11 +1,10 @@
 -- No row refuses a whole frame where there is room for any, so that it is written.
+use native.Mathlib.Omega.{arith}
 use Rattle.fusb302.proofs.Sending.{put_said, put_sent}
 use Rattle.fusb302.proofs.send.put.Goals as goal
 
-pub returns-in_default : goal.returns-in_default
-returns-in_default c =
-    let said = put_said _ _ _ _ c.requires.0 c.requires.1 c.write_frame.ensures in
-    absurd (c.in_default.not-Sent _ said)
+pub unwrap-requires : goal.unwrap-requires
+unwrap-requires c = rw (put_said _ _ _ _ c.requires (omega (arith, c.told-frame)) (rw c.from.ensures at c.write_frame.ensures))
 
 pub returns : goal.returns
-returns c = put_sent _ _ _ _ c.requires.0 c.requires.1 c.write_frame.ensures _ c.in-Sent.is
+returns c = put_sent _ _ _ _ c.requires (omega (arith, c.told-frame)) (rw c.from.ensures at c.write_frame.ensures) _ c.unwrap.ensures

@@ -1,19 +1,16 @@
--- The loop's invariant: n nibbles were counted. The measure is what is left of the symbols.
+use mathlib.Core.Path.{◌∙◌}
 use borrow.Author.Rules.{rules}
-use Rattle.line.proofs.Reading.{uncounted, all_counted, line_counted, symbol_stops, symbol_counts}
+use borrow.Author.Tests.{tests}
+use Rattle.std.proofs.lemmas.Iterator.{YieldsList-from_slice, YieldsList-from_take}
+use Rattle.std.proofs.lemmas.Iterator.Consumers.{YieldsList-at, count_from_yields_List}
+use Rattle.std.proofs.lemmas.Iterator.Search.{YieldsList-from_take_while}
+use Rattle.line.specs.Symbol.{is_nibble}
+use Rattle.line.proofs.Reading.{counted}
 use Rattle.line.proofs.read.nibbles.Goals as goal
 
-pub loop-n-init : goal.loop-n-init
-loop-n-init c = uncounted _
-
-pub returns-then-n-eq68 : goal.returns-then-n-eq68
-returns-then-n-eq68 c = all_counted _ _ c.loop-n.invariant c.if-n-eq68.true
-
-pub returns-then-nibble-gt15 : goal.returns-then-nibble-gt15
-returns-then-nibble-gt15 c = symbol_stops _ _ (search rules) c.loop-n-test.true _ c.nibble.ensures c.if-nibble-gt15.true
-
-pub loop-n-preserved : goal.loop-n-preserved
-loop-n-preserved c = symbol_counts _ _ (search rules) c.loop-n-test.true _ c.nibble.ensures c.if-nibble-gt15.false c.if-n-eq68.false
-
 pub returns : goal.returns
-returns c = line_counted _ _ c.loop-n.invariant c.loop-n-test.false
+returns c =
+    count_from_yields_List c.take_while.result c.count.result c.count.ensures.ran
+    (YieldsList-from_take_while _ is_nibble (YieldsList-at c.take_while.ensures.source (YieldsList-from_take 68 (YieldsList-from_slice c.args.body.now cc) cc))
+    c.take_while.ensures.closure c.take_while.ensures.done (λ x b q k. search (rules, tests)))
+    ∙ counted 68 c.args.body.now

@@ -18,7 +18,7 @@ read_octets-requires c =
     let z = ending 0 0 true _ [] _ count c.if-n-body.false _ c.may_end.ensures c.if-may_end.true in
     let w = body_within 0 0 true _ [] _ count in
     let most = body_most 0 0 true _ [] _ count in
-    (c.requires.0, omega (arith, count), omega (arith, z.many), omega arith, c.requires.1, omega (arith, c.requires.2, c.if-n-body.false))
+    (omega (arith, count), omega (arith, z.many), omega arith, c.requires.0, omega (arith, c.requires.1, c.if-n-body.false))
 
 pub returns-then-may_end : goal.returns-then-may_end
 returns-then-may_end c = body_whole _ _ _ _ _ _ c.nibbles-n.ensures c.if-n-body.false _ c.may_end.ensures c.if-may_end.true _ _ c.read_octets.ensures

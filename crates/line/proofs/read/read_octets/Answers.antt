@@ -1,15 +1,20 @@
 -- The octets are gathered, judged by their CRC, and only then handed over.
-use mathlib.Core.Path.{sym}
+use mathlib.Core.Path.{ap}
+use mathlib.Core.List.{List, ◌++◌}
+use Prim.Native.Nat.{ℕ}
+use lib.ListN.{drop}
 use native.Mathlib.Omega.{arith}
-use lib.Seq.{length-take-le}
-use Rattle.line.proofs.Reading.{length_pairs, crc_wrong, crc_agrees}
+use Rattle.line.proofs.Reading.{length_pairs, held_octets, held_long, crc_wrong, crc_agrees}
 use Rattle.line.proofs.read.read_octets.Goals as goal
 
 pub slice_bounds-right-end : goal.slice_bounds-right-end
-slice_bounds-right-end c = sym (length-take-le _ c.get_octets.new.octets (omega arith))
+slice_bounds-right-end c = held_long _ _ _ _ c.requires.2 c.requires.0 c.get_octets.ensures
 
 pub returns-then-right : goal.returns-then-right
-returns-then-right c = crc_agrees _ _ _ _ (length_pairs _ _ c.requires.1) c.requires.3 c.get_octets.ensures _ _ c.requires.0 _ (omega (arith, c.requires.3)) _ c.right.ensures c.if-right.true _ c.copy.ensures
+returns-then-right c =
+    crc_agrees _ c.args.set.kind _ _ (length_pairs _ _ c.requires.0) (held_octets _ _ _ _ c.requires.2 c.requires.0 c.get_octets.ensures) _ _ _ (omega (arith, c.requires.2)) _ c.right.ensures c.if-right.true
+    _ (ap (λ (l : List ℕ). l ++ drop c.args.count c.args.octets.now) c.copy_from_slice.ensures.after)
 
 pub returns : goal.returns
-returns c = crc_wrong _ _ _ _ (length_pairs _ _ c.requires.1) c.requires.3 c.get_octets.ensures _ _ c.requires.0 _ (omega (arith, c.requires.3)) _ c.right.ensures c.if-right.false
+returns c =
+    crc_wrong _ c.args.set.kind _ _ (length_pairs _ _ c.requires.0) (held_octets _ _ _ _ c.requires.2 c.requires.0 c.get_octets.ensures) _ _ _ (omega (arith, c.requires.2)) _ c.right.ensures c.if-right.false

@@ -1,20 +1,19 @@
--- The loop's invariant: the places below were counted. The measure is what is left of the set.
+use mathlib.Core.Path.{ap, ◌∙◌}
+use mathlib.Core.List.{List}
 use borrow.Author.Rules.{rules}
-use mathlib.Core.Logic.{inl, inr}
-use Rattle.line.proofs.Matching.{begin, set_ends, goes_on}
+use borrow.Author.Tests.{tests}
+use Prim.Native.Nat.{ℕ}
+use lib.Dec.{eqb}
+use Rattle.std.proofs.lemmas.Iterator.{YieldsList-from_slice, YieldsList-from_zip}
+use Rattle.std.proofs.lemmas.Iterator.Consumers.{YieldsList-at, YieldsList-from_filter, count_from_yields_List}
+use Rattle.line.specs.Read.{agree}
+use Rattle.line.proofs.Matching.{counted}
 use Rattle.line.proofs.sets.agree.Goals as goal
-use Rattle.line.proofs.sets.agree.Goals.{then-set-i, else-set-i}
-
-pub loop-i-init : goal.loop-i-init
-loop-i-init c = begin _ _
-
-pub loop-i-preserved : goal.loop-i-preserved
-loop-i-preserved c =
-    goes_on _ _ _ _ c.loop-i.invariant c.loop-i-test.true (search rules) _
-    (elim c.if-set-i.branch [
-      | then-set-i w ↦ inl (w.if-set-i.true, w.n-is)
-      | else-set-i w ↦ inr (w.if-set-i.false, w.n-is)
-    ])
 
 pub returns : goal.returns
-returns c = set_ends _ _ _ _ c.loop-i.invariant c.loop-i-test.false
+returns c =
+    count_from_yields_List c.filter.result c.count.result c.count.ensures.ran
+    (YieldsList-from_filter _ (λ (p : ℕ × ℕ). eqb p.0 p.1) (YieldsList-at c.filter.ensures.source (YieldsList-from_zip (YieldsList-from_slice c.set_of-set.result cc) (YieldsList-from_slice c.args.line.now cc)))
+    c.filter.ensures.closure (λ x b q k. search (rules, tests)))
+    ∙ counted c.set_of-set.result c.args.line.now
+    ∙ ap (λ (s : List ℕ). agree s c.args.line.now) c.set_of-set.ensures

@@ -1,18 +1,8 @@
-use borrow.Author.Rules.{rules}
-use mathlib.Core.Path.{ap, ◌∙◌}
-use native.Mathlib.Omega.{arith}
-use lib.ListN.{length-set}
-use lib.Seq.{sets}
-use Rattle.line.proofs.Stores.{four}
+use mathlib.Core.Path.{◌∙◌}
+use Rattle.line.proofs.Numbers.{kind_below}
+use Rattle.line.proofs.Starts.{set_length}
+use Rattle.line.proofs.Stores.{front_put}
 use Rattle.line.proofs.sets.put_set.Goals as goal
 
-pub bounds-symbols-1 : goal.bounds-symbols-1
-bounds-symbols-1 c = simp length-set (omega arith)
-
-pub bounds-symbols-2 : goal.bounds-symbols-2
-bounds-symbols-2 c = simp length-set (omega arith)
-
 pub returns : goal.returns
-returns c =
-    let S = c.args.symbols.now in
-    four S c.set_of-set.result (search rules) ∙ ap (sets S 0) c.set_of-set.ensures
+returns c = front_put _ _ _ _ (set_length _ (kind_below c.args.kind)) c.requires (c.copy_from_slice.ensures.after ∙ c.set_of.ensures)

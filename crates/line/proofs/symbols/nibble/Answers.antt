@@ -1,6 +1,6 @@
 -- What a row answers is computed; in the last arm the symbol is in no row, and so not in the table. That the arms stand in the
 -- page's order is read off what the last arm knows of them, for which the check has a name of its own alone.
-use Rattle.std.proofs.Common.{◌≡◌, ℕ, List, [], ◌∷◌, ◌++◌, sym}
+use Rattle.std.proofs.Common.{◌≡◌, ℕ, List, [], ◌∷◌, ◌++◌}
 use Rattle.line.specs.Symbol.{nibble_symbols, sync_1, sync_2, sync_3, rst_1, rst_2, eop, nibble_of}
 use Rattle.line.proofs.Keys.{None, known, absent}
 use Rattle.line.proofs.symbols.nibble.Goals as goal
@@ -17,4 +17,4 @@ unfolding nibble_of
 in_no_row s h = absent (Unit {0}) nibble_symbols s (known (None (Unit {0}) nibble_symbols s) others s h)
 
 pub returns-in_default : goal.returns-in_default
-returns-in_default c = sym (in_no_row c.args.symbol c.in_default.in_default-own.rest)
+returns-in_default c = in_no_row c.args.symbol c.in_default.in_default-own.rest

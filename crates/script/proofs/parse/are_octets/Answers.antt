@@ -1,20 +1,17 @@
--- What was passed is whole groups, so the line is as the rest of it.
-use mathlib.Core.Path.{refl}
+-- Whole groups, and each a space and two digits.
+use mathlib.Core.Path.{sym, ◌∙◌}
+use mathlib.Core.Bool.{false}
 use borrow.Author.Rules.{rules}
-use Rattle.script.proofs.Octets.{through, short, stray, goes_on}
+use borrow.Author.Tests.{tests, eqb-true, eqb-false}
+use Rattle.std.proofs.lemmas.Iterator.{YieldsList-from_slice}
+use Rattle.std.proofs.lemmas.Iterator.Search.{all_from_yields_List}
+use Rattle.script.proofs.Octets.{is_group, whole, cut}
 use Rattle.script.proofs.parse.are_octets.Goals as goal
 
-pub loop-i-init : goal.loop-i-init
-loop-i-init c = refl
+pub returns-then-is_empty : goal.returns-then-is_empty
+returns-then-is_empty c =
+    whole c.args.s.now _ c.as_chunks.ensures.back_len _ (eqb-true _ _ (sym c.is_empty.ensures ∙ c.if-is_empty.true))
+    (all_from_yields_List is_group _ _ _ c.all.ensures.ran (YieldsList-from_slice _ (c.iter.ensures.rest ∙ c.as_chunks.ensures.front)) (λ x b q k. search (rules, tests)))
 
-pub returns-then-s-i-lt3 : goal.returns-then-s-i-lt3
-returns-then-s-i-lt3 c = short _ _ c.loop-i.invariant c.loop-i-test.true c.if-s-i-lt3.true
-
-pub returns-then-not-is_octet : goal.returns-then-not-is_octet
-returns-then-not-is_octet c = stray _ _ (search rules) (search rules) (search rules) _ c.is_octet.ensures c.if-not-is_octet.true
-
-pub loop-i-preserved : goal.loop-i-preserved
-loop-i-preserved c = goes_on _ _ (search rules) (search rules) (search rules) _ c.is_octet.ensures c.if-not-is_octet.false
-
-pub returns : goal.returns
-returns c = through _ _ c.loop-i.invariant c.loop-i-test.false
+pub returns-else-is_empty : goal.returns-else-is_empty
+returns-else-is_empty c = c.if-is_empty.false ∙ cut c.args.s.now _ c.as_chunks.ensures.back_len false (eqb-false _ _ (sym c.is_empty.ensures ∙ c.if-is_empty.false))

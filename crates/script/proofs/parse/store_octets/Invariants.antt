@@ -1,11 +1,10 @@
--- Each group is whole, and its octet goes to the next place.
-use Prim.Native.Nat.{◌-◌}
-use lib.ListN.{length}
-use Rattle.script.proofs.Octets.{Storing}
+-- The octets of the groups passed stand at the beginning.
+use mathlib.Core.Path.{◌≡◌}
+use mathlib.Core.List.{map}
+use lib.ListN.{take}
+use lib.Seq.{sets}
+use Rattle.script.proofs.Octets.{octet_of_group}
 use Rattle.script.proofs.parse.store_octets.Given as goal
 
-abbrev pub invariant-loop-i : goal.invariant-loop-i
-invariant-loop-i l = Storing l.s l.initial.octets l.octets l.n l.i
-
-abbrev pub decreases-loop-i : goal.decreases-loop-i
-decreases-loop-i l = length l.s - l.i
+abbrev pub invariant-loop-n : goal.invariant-loop-n
+invariant-loop-n l = l.octets ≡ sets l.initial.octets 0 (map octet_of_group (take l.n l.groups))

@@ -5,11 +5,11 @@ use Rattle.script.proofs.Texts.{is_refused, is_word}
 use Rattle.script.proofs.print.put_reason.Goals as goal
 
 pub returns-in-Refused : goal.returns-in-Refused
-returns-in-Refused c = is_refused _ _ c.requires c.in-Refused.is c.put_text-next.ensures c.put_decimal.ensures
+returns-in-Refused c = is_refused _ _ c.requires c.in-Refused.is c.from.ensures c.put_text.ensures c.put_decimal.ensures
 
 pub returns-in-KindOff : goal.returns-in-KindOff
 unfolding reason_text
-returns-in-KindOff c = is_word _ KindOff c.requires c.in-KindOff.is c.put_text.ensures
+returns-in-KindOff c = is_word _ KindOff c.requires c.in-KindOff.is c.put_text-in-KindOff.ensures
 
 pub returns-in-CrcWrong : goal.returns-in-CrcWrong
 unfolding reason_text

@@ -2,8 +2,8 @@
 use Rattle.script.proofs.Texts.{why_line, why_room}
 use Rattle.script.proofs.print.put_why.Goals as goal
 
-pub put_reason-c-requires : goal.put_reason-c-requires
-put_reason-c-requires c = why_room _ c.requires c.put_decimal-a.ensures c.put-b.ensures
+pub put_reason-requires : goal.put_reason-requires
+put_reason-requires c = why_room _ c.requires c.put_decimal.ensures c.put.ensures
 
 pub returns : goal.returns
-returns c = why_line _ _ c.requires c.put_decimal-a.ensures c.put-b.ensures c.put_reason-c.ensures c.put.ensures
+returns c = why_line _ _ c.requires c.put_decimal.ensures c.put.ensures c.put_reason.ensures c.put-2.ensures

@@ -1,18 +1,11 @@
 -- What is noted is the state that is stored in, if there is room.
-use borrow.Author.Rules.{rules}
 use Rattle.fusb302.proofs.Hearing.{has_room, no_room_lem, accepts_stores, accepts_full}
 use Rattle.fusb302.proofs.device.Device.accept.Goals as goal
 
-pub overflow_add-noted-2 : goal.overflow_add-noted-2
-overflow_add-noted-2 c = search (rules, c.soft_reset-noted.ensures.arranged.rx.room, c.requires.3)
-
-pub store-requires : goal.store-requires
-store-requires c = (c.soft_reset-noted.ensures.arranged, c.requires.1, c.requires.2, has_room c.soft_reset-noted.result c.soft_reset-noted.ensures.arranged c.args.packet.now c.if-noted-packet-le-CAPACITY.true, c.requires.4)
-
 pub returns-then-noted-packet-le-CAPACITY : goal.returns-then-noted-packet-le-CAPACITY
-returns-then-noted-packet-le-CAPACITY c = accepts_stores c.args.self c.checked.result c.acknowledged.result c.soft_reset-noted.result _ _ _ _ c.awaits-awaited.ensures c.is_control.ensures c.checked.ensures c.acknowledged.ensures c.soft_reset-noted.ensures (has_room c.soft_reset-noted.result c.soft_reset-noted.ensures.arranged c.args.packet.now c.if-noted-packet-le-CAPACITY.true) _ _ _ c.store.ensures
+returns-then-noted-packet-le-CAPACITY c = accepts_stores c.args.self c.checked.result c.acknowledged.result c.soft_reset-noted.result _ _ _ _ c.awaits-awaited.ensures c.is_control.ensures c.checked.ensures c.acknowledged.ensures c.soft_reset-noted.ensures (has_room c.soft_reset-noted.result c.args.packet.now c.if-noted-packet-le-CAPACITY.true) _ _ _ c.store.ensures
 
 pub returns : goal.returns
 returns c =
     rw c.done.ensures
-    (accepts_full c.args.self c.checked.result c.acknowledged.result c.soft_reset-noted.result _ _ _ _ c.awaits-awaited.ensures c.is_control.ensures c.checked.ensures c.acknowledged.ensures c.soft_reset-noted.ensures (no_room_lem c.soft_reset-noted.result c.soft_reset-noted.ensures.arranged c.args.packet.now c.if-noted-packet-le-CAPACITY.false) c.raises.result c.raises.ensures _)
+    (accepts_full c.args.self c.checked.result c.acknowledged.result c.soft_reset-noted.result _ _ _ _ c.awaits-awaited.ensures c.is_control.ensures c.checked.ensures c.acknowledged.ensures c.soft_reset-noted.ensures (no_room_lem c.soft_reset-noted.result c.args.packet.now c.if-noted-packet-le-CAPACITY.false) c.raises.result c.raises.ensures _)

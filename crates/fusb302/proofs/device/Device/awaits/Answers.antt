@@ -1,25 +1,22 @@
 -- The frame that is in flight is the Soft_Reset, or the message that the queue spells.
 use mathlib.Core.Path.{sym, ◌∙◌}
-use native.Mathlib.Omega.{arith}
 use Rattle.fusb302.proofs.Hearing.{awaits_idle, awaits_other, awaits_reset, awaits_nothing, awaits_message}
 use Rattle.fusb302.proofs.device.Device.awaits.Goals as goal
 
-pub returns-then-self-lt-NO_KIND : goal.returns-then-self-lt-NO_KIND
-returns-then-self-lt-NO_KIND c = awaits_reset c.args.self _ _ c.if-self.true (sym c.is_control.ensures ∙ c.if-is_control.true) c.if-self-lt-NO_KIND.true _ c.answers.ensures
+pub returns-in_default : goal.returns-in_default
+returns-in_default c = awaits_idle c.args.self _ _ c.in_default.is
 
-pub slice_bounds-message_id-end : goal.slice_bounds-message_id-end
-slice_bounds-message_id-end c =
-    omega (arith, c.requires.0.tx.size)
+pub returns-then-not-is_control : goal.returns-then-not-is_control
+returns-then-not-is_control c = awaits_other c.args.self _ _ _ c.in-Some.is (sym c.is_control.ensures ∙ c.if-not-is_control.true)
 
-pub returns-in-Spelt : goal.returns-in-Spelt
-returns-in-Spelt c =
-    awaits_message c.args.self _ _ c.if-self.true c.if-self-lt-NO_KIND.false _ c.message.ensures (sym c.is_control.ensures ∙ c.if-is_control.true) _ _ c.in-Spelt.is _ c.message_id.ensures.0 _ c.answers-in-Spelt.ensures
+pub returns-in-Some-resetting : goal.returns-in-Some-resetting
+returns-in-Some-resetting c =
+    awaits_reset c.args.self _ _ _ c.in-Some.is (sym c.is_control.ensures ∙ c.if-not-is_control.false) _ c.in-Some-resetting.is _ c.answers.ensures
 
-pub returns-in-Nothing : goal.returns-in-Nothing
-returns-in-Nothing c = awaits_nothing c.args.self _ _ c.if-self.true c.if-self-lt-NO_KIND.false _ c.message.ensures c.in-Nothing.is
-
-pub returns-then-self : goal.returns-then-self
-returns-then-self c = awaits_other c.args.self _ _ c.if-self.true (sym c.is_control.ensures ∙ c.if-is_control.false)
+pub returns-in_default-message : goal.returns-in_default-message
+returns-in_default-message c = awaits_nothing c.args.self _ _ _ c.in-Some.is c.in_default-resetting.is _ c.message.ensures c.in_default-message.is
 
 pub returns : goal.returns
-returns c = awaits_idle c.args.self _ _ c.if-self.false
+returns c =
+    awaits_message c.args.self _ _ _ c.in-Some.is c.in_default-resetting.is _ c.message.ensures (sym c.is_control.ensures ∙ c.if-not-is_control.false)
+    _ c.in-Some-message.is _ c.message_id.ensures.0 _ c.answers-2.ensures

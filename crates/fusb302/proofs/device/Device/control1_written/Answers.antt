@@ -4,7 +4,7 @@ use Rattle.fusb302.proofs.Writing.{control1_flushes, control1_rests}
 use Rattle.fusb302.proofs.device.Device.control1_written.Goals as goal
 
 pub returns-then-has : goal.returns-then-has
-returns-then-has c = rw c.done.ensures (control1_flushes _ c.requires _ (sym c.has.ensures ∙ c.if-has.true) _ c.empty-self.ensures.0 c.empty-self.ensures.1)
+returns-then-has c = rw c.done.ensures (control1_flushes c.args.self _ (sym c.has.ensures ∙ c.if-has.true) _ _ c.empty-self.ensures)
 
 pub returns : goal.returns
-returns c = rw c.done-2.ensures (control1_rests _ c.requires _ (sym c.has.ensures ∙ c.if-has.false))
+returns c = rw c.done-2.ensures (control1_rests c.args.self _ (sym c.has.ensures ∙ c.if-has.false))

@@ -5,7 +5,7 @@ use Rattle.fusb302.proofs.Writing.{control3_sends, control3_rests}
 use Rattle.fusb302.proofs.device.Device.control3_written.Goals as goal
 
 pub put-count-requires : goal.put-count-requires
-put-count-requires c = (reset_whole, c.requires.1)
+put-count-requires c = reset_whole
 
 pub returns-then-has : goal.returns-then-has
 returns-then-has c =
@@ -13,4 +13,4 @@ returns-then-has c =
     (control3_sends c.args.self _ _ (sym c.has.ensures ∙ c.if-has.true) c.over.result c.hides_fails.result c.raises_a.result c.over.ensures c.hides_fails.ensures c.raises_a.ensures _ _ c.put-count.ensures)
 
 pub returns : goal.returns
-returns c = rw c.done-2.ensures (control3_rests c.args.self _ _ (sym c.has.ensures ∙ c.if-has.false) c.requires.0)
+returns c = rw c.done-2.ensures (control3_rests c.args.self _ _ (sym c.has.ensures ∙ c.if-has.false))

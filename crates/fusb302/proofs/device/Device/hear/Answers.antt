@@ -7,7 +7,7 @@ pub returns-then-right : goal.returns-then-right
 returns-then-right c = hears_right c.args.self _ _ _ (sym c.kind_on.ensures ∙ c.if-kind_on.true) (sym c.right.ensures ∙ c.if-right.true) _ _ c.accept.ensures
 
 pub returns-then-kind_on : goal.returns-then-kind_on
-returns-then-kind_on c = rw c.done.ensures (hears_wrong c.args.self _ _ _ c.requires.0 (sym c.kind_on.ensures ∙ c.if-kind_on.true) (sym c.right.ensures ∙ c.if-right.false))
+returns-then-kind_on c = rw c.done.ensures (hears_wrong c.args.self _ _ _ _ (sym c.kind_on.ensures ∙ c.if-kind_on.true) (sym c.right.ensures ∙ c.if-right.false))
 
 pub returns : goal.returns
-returns c = rw c.done-2.ensures (hears_off c.args.self _ _ _ c.requires.0 (sym c.kind_on.ensures ∙ c.if-kind_on.false))
+returns c = rw c.done-2.ensures (hears_off c.args.self _ _ _ (sym c.kind_on.ensures ∙ c.if-kind_on.false))

@@ -3,7 +3,7 @@ use Rattle.fusb302.proofs.Writing.{queue_on, queue_full}
 use Rattle.fusb302.proofs.device.Device.queue.Goals as goal
 
 pub returns-then-longer-eq-CAPACITY : goal.returns-then-longer-eq-CAPACITY
-returns-then-longer-eq-CAPACITY c = queue_full c.args.self c.requires.0 _ c.push-longer.result c.push-longer.ensures c.if-longer-eq-CAPACITY.true c.raises.result c.raises.ensures
+returns-then-longer-eq-CAPACITY c = queue_full c.args.self _ c.push-longer.result c.args.self.registers c.push-longer.ensures c.if-longer-eq-CAPACITY.true c.raises.result c.raises.ensures
 
 pub returns : goal.returns
-returns c = queue_on c.args.self c.requires.0 _ c.push-longer.result c.push-longer.ensures c.if-longer-eq-CAPACITY.false
+returns c = queue_on c.args.self _ c.push-longer.result _ c.push-longer.ensures c.if-longer-eq-CAPACITY.false

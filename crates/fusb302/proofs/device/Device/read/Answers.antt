@@ -10,10 +10,10 @@ pub overflow_sub-at : goal.overflow_sub-at
 overflow_sub-at c = (is_stored_lem _ _ c.place_of.ensures c.in-Stored.is).0
 
 pub bounds-cells-at : goal.bounds-cells-at
-bounds-cells-at c = let h = is_stored_lem _ _ c.place_of.ensures c.in-Stored.is in omega (arith, c.requires.arranged.cells)
+bounds-cells-at c = let h = is_stored_lem _ _ c.place_of.ensures c.in-Stored.is in omega (arith, c.args.self.registers)
 
 pub shown-octet-requires : goal.shown-octet-requires
-shown-octet-requires c = let h = is_shown _ _ c.place_of.ensures c.in-Shown.is in (c.requires.arranged, h.0, h.1)
+shown-octet-requires c = let h = is_shown _ _ c.place_of.ensures c.in-Shown.is in (h.0, h.1)
 
 pub returns-in-Id : goal.returns-in-Id
 returns-in-Id c = rw c.give.ensures (read_id _ c.requires _ c.if-symbols-lt-FRAME_ROOM.false _ (omega arith) (is_id _ _ c.place_of.ensures c.in-Id.is))
@@ -24,7 +24,7 @@ returns-in-Stored c = rw c.give-in-Stored.ensures (read_stored _ c.requires _ c.
 pub returns-in-Shown : goal.returns-in-Shown
 returns-in-Shown c =
     rw c.give-in-Shown.ensures
-    (read_shown _ c.requires _ c.if-symbols-lt-FRAME_ROOM.false _ (omega arith) (is_shown _ _ c.place_of.ensures c.in-Shown.is) _ _ c.shown-octet.ensures c.cleared-after.ensures)
+    (read_shown _ c.requires _ c.if-symbols-lt-FRAME_ROOM.false _ (omega arith) (is_shown _ _ c.place_of.ensures c.in-Shown.is) _ _ _ c.shown-octet.ensures c.cleared-after.ensures)
 
 pub returns-in-Port : goal.returns-in-Port
 returns-in-Port c = rw (is_port _ _ c.place_of.ensures c.in-Port.is) (c.read_port.ensures.serves _ c.if-symbols-lt-FRAME_ROOM.false)

@@ -10,4 +10,4 @@ pub returns-then-has-2 : goal.returns-then-has-2
 returns-then-has-2 c = rw c.done-then-has-2.ensures (reset_clears c.args.self _ (sym c.has.ensures ∙ c.if-has.false) (sym c.has-2.ensures ∙ c.if-has-2.true) c.pd_reset.result c.pd_reset.ensures)
 
 pub returns : goal.returns
-returns c = rw c.done-2.ensures (reset_rests c.args.self _ (sym c.has.ensures ∙ c.if-has.false) (sym c.has-2.ensures ∙ c.if-has-2.false) c.requires)
+returns c = rw c.done-2.ensures (reset_rests c.args.self _ (sym c.has.ensures ∙ c.if-has.false) (sym c.has-2.ensures ∙ c.if-has-2.false))

@@ -3,4 +3,4 @@ use Rattle.fusb302.proofs.Writing.{restores}
 use Rattle.fusb302.proofs.device.Device.restored.Goals as goal
 
 pub returns : goal.returns
-returns c = restores c.args.self c.power_up-new.result c.power_up-new.ensures
+returns c = restores c.args.self c.power_up-new.result _ c.power_up-new.ensures

@@ -5,14 +5,14 @@ use Rattle.fusb302.proofs.Waiting.{soft_ends, soft_hard}
 use Rattle.fusb302.proofs.device.Device.soft_fails.Goals as goal
 
 pub put-count-requires : goal.put-count-requires
-put-count-requires c = (reset_whole, c.requires.1)
+put-count-requires c = reset_whole
 
-pub returns-then-self : goal.returns-then-self
-returns-then-self c =
+pub returns-then-request : goal.returns-then-request
+returns-then-request c =
     let h = over_noted c.args.self c.over.result c.shows.result c.raises_a-failed.result _ _ c.over.ensures c.shows.ensures c.raises_a-failed.ensures in
-    rw c.done.ensures (soft_hard c.args.self c.raises_a-failed.result _ h c.if-self.true c.raises_a.result c.raises_a.ensures _ _ c.put-count.ensures)
+    rw c.done.ensures (soft_hard c.args.self c.raises_a-failed.result _ _ h c.if-request.true c.raises_a.result c.raises_a.ensures _ _ c.put-count.ensures)
 
 pub returns : goal.returns
 returns c =
     let h = over_noted c.args.self c.over.result c.shows.result c.raises_a-failed.result _ _ c.over.ensures c.shows.ensures c.raises_a-failed.ensures in
-    rw c.done-2.ensures (soft_ends c.args.self c.raises_a-failed.result _ h c.if-self.false)
+    rw c.done-2.ensures (soft_ends c.args.self c.raises_a-failed.result _ _ h c.if-request.false)

@@ -15,14 +15,14 @@ returns-then-self-packet-gt-CAPACITY c =
     at_room _ _ _
     (is_off c.args.self _ _ _ c.kind_on.ensures (ap not c.if-not-kind_on.false))
     (ap not (sym c.right.ensures) ∙ ap not c.if-not-right.false)
-    (is_full c.args.self c.args.packet.now c.requires.0 c.if-self-packet-gt-CAPACITY.true)
+    (is_full c.args.self c.args.packet.now c.if-self-packet-gt-CAPACITY.true)
 
 pub returns-then-is_control : goal.returns-then-is_control
 returns-then-is_control c =
     at_good_crc _ _ _
     (is_off c.args.self _ _ _ c.kind_on.ensures (ap not c.if-not-kind_on.false))
     (ap not (sym c.right.ensures) ∙ ap not c.if-not-right.false)
-    (is_room c.args.self c.args.packet.now c.requires.0 c.if-self-packet-gt-CAPACITY.false)
+    (is_room c.args.self c.args.packet.now c.if-self-packet-gt-CAPACITY.false)
     (sym c.is_control.ensures ∙ c.if-is_control.true)
 
 pub returns-then-not-has : goal.returns-then-not-has
@@ -30,7 +30,7 @@ returns-then-not-has c =
     at_auto_crc _ _ _
     (is_off c.args.self _ _ _ c.kind_on.ensures (ap not c.if-not-kind_on.false))
     (ap not (sym c.right.ensures) ∙ ap not c.if-not-right.false)
-    (is_room c.args.self c.args.packet.now c.requires.0 c.if-self-packet-gt-CAPACITY.false)
+    (is_room c.args.self c.args.packet.now c.if-self-packet-gt-CAPACITY.false)
     (sym c.is_control.ensures ∙ c.if-is_control.false)
     (is_unset c.args.self _ _ c.has.ensures (ap not c.if-not-has.true))
 
@@ -39,7 +39,7 @@ returns-then-has c =
     at_auto_pre _ _ _
     (is_off c.args.self _ _ _ c.kind_on.ensures (ap not c.if-not-kind_on.false))
     (ap not (sym c.right.ensures) ∙ ap not c.if-not-right.false)
-    (is_room c.args.self c.args.packet.now c.requires.0 c.if-self-packet-gt-CAPACITY.false)
+    (is_room c.args.self c.args.packet.now c.if-self-packet-gt-CAPACITY.false)
     (sym c.is_control.ensures ∙ c.if-is_control.false)
     (is_unset c.args.self _ _ c.has.ensures (ap not c.if-not-has.false))
     (is_set c.args.self _ _ c.has-2.ensures c.if-has.true)
@@ -49,7 +49,7 @@ returns-then-not-driver_on c =
     at_driver _ _ _
     (is_off c.args.self _ _ _ c.kind_on.ensures (ap not c.if-not-kind_on.false))
     (ap not (sym c.right.ensures) ∙ ap not c.if-not-right.false)
-    (is_room c.args.self c.args.packet.now c.requires.0 c.if-self-packet-gt-CAPACITY.false)
+    (is_room c.args.self c.args.packet.now c.if-self-packet-gt-CAPACITY.false)
     (sym c.is_control.ensures ∙ c.if-is_control.false)
     (is_unset c.args.self _ _ c.has.ensures (ap not c.if-not-has.false))
     (is_set c.args.self _ _ c.has-2.ensures c.if-has.false)
@@ -60,7 +60,7 @@ returns c =
     at_none _ _ _
     (is_off c.args.self _ _ _ c.kind_on.ensures (ap not c.if-not-kind_on.false))
     (ap not (sym c.right.ensures) ∙ ap not c.if-not-right.false)
-    (is_room c.args.self c.args.packet.now c.requires.0 c.if-self-packet-gt-CAPACITY.false)
+    (is_room c.args.self c.args.packet.now c.if-self-packet-gt-CAPACITY.false)
     (sym c.is_control.ensures ∙ c.if-is_control.false)
     (is_unset c.args.self _ _ c.has.ensures (ap not c.if-not-has.false))
     (is_set c.args.self _ _ c.has-2.ensures c.if-has.false)

@@ -1,36 +1,18 @@
--- The queue is longer by the octet, and what is to come follows from what was to come before it.
-use borrow.Author.Rules.{rules}
+-- What is to come follows from what was to come before the octet.
 use mathlib.Core.Path.{sym, ap, ◌∙◌}
 use native.Mathlib.Omega.{arith}
 use Rattle.machine.specs.Queue.{to_come}
 use Rattle.fusb302.specs.Queued.{queued}
 use Rattle.fusb302.proofs.Queueing.{pushed, left_token, left_data}
+use Rattle.fusb302.proofs.queue.Queue.push.Goals.{then-self-eq0, else-self-eq0}
 use Rattle.fusb302.proofs.queue.Queue.push.Goals as goal
 
-pub returns-then-left-eq0 : goal.returns-then-left-eq0
-returns-then-left-eq0 c =
+pub invariant_of-self-clause-counted : goal.invariant_of-self-clause-counted
+invariant_of-self-clause-counted c =
     let q = c.args.self in
     let b = c.args.octet in
-    let k = c.requires.0 in
-    let is = pushed q.octets q.len b (omega arith) in (
-      record {
-        size = search rules;
-        room = search rules;
-        left = c.announced.ensures ∙ sym (ap (to_come 0) is ∙ left_token (queued q) b (sym k.left ∙ c.if-left-eq0.true));
-      },
-      is,
-    )
-
-pub returns-else-left-eq0 : goal.returns-else-left-eq0
-returns-else-left-eq0 c =
-    let q = c.args.self in
-    let b = c.args.octet in
-    let k = c.requires.0 in
-    let is = pushed q.octets q.len b (omega arith) in (
-      record {
-        size = search rules;
-        room = search rules;
-        left = rw k.left (sym (ap (to_come 0) is ∙ left_data (queued q) b (λ e. c.if-left-eq0.false (k.left ∙ e))));
-      },
-      is,
-    )
+    let is = pushed q.octets q.len b (omega arith) in
+    elim c.if-self-eq0.branch [
+      | then-self-eq0 w ↦ w.self-is ∙ w.announced.ensures ∙ sym (ap (to_come 0) is ∙ left_token (queued q) b (sym q.counted ∙ w.if-self-eq0.true))
+      | else-self-eq0 w ↦ w.self-is ∙ rw q.counted (sym (ap (to_come 0) is ∙ left_data (queued q) b (λ e. w.if-self-eq0.false (q.counted ∙ e))))
+    ]

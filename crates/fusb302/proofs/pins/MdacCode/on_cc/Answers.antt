@@ -1,6 +1,0 @@
--- The product itself.
-use mathlib.Core.Path.{refl}
-use Rattle.fusb302.proofs.pins.MdacCode.on_cc.Goals as goal
-
-pub returns : goal.returns
-returns c = refl

@@ -1,0 +1,89 @@
+// A stream with its handles and its two buffers: what it tells of them always lies in them.
+//
+// Who prints makes the page of `out` and `stream.used`: a method that hands it out would need a clause on what the buffer ends as.
+ghost use Rattle.std.specs.Prelude.{◌≡◌, true, ◌+◌, ◌≤◌, slice_range};
+ghost use Rattle.text.specs.Put.{has_room};
+ghost use Rattle.stream.specs.Ready.{buffer_room, octet_waits, Ready};
+ghost use Rattle.stream.specs.Promises.{BeginsFresh, WritesOut, MakesRoom, Fills, StepsTo};
+
+use crate::{Input, Stream};
+use std::io::{Stdin, Stdout};
+
+#[derive(Drop)]
+pub struct Console {
+    stdin: Stdin,
+    stdout: Stdout,
+    pub stream: Stream,
+    pub buf: [u8; 65536],
+    pub out: [u8; 65536],
+    pub ghost ready: { Ready stream },
+}
+
+impl Console {
+    ghost use Rattle.stream.specs.Buffers.{KeepsBuffers};
+
+    pub fn new(stdin: Stdin, stdout: Stdout) -> Console
+        ensures { BeginsFresh result.stream }
+    {
+        Console {
+            stdin,
+            stdout,
+            stream: Stream::begin(),
+            buf: [0; 65536],
+            out: [0; 65536],
+        }
+    }
+
+    // `Stream::write_out`.
+    pub fn write_out(&mut self)
+        ensures writes { WritesOut self.old.stream self.new.stream }
+        ensures keeps { KeepsBuffers self.old self.new }
+    {
+        self.stream.write_out(self.stdout, &self.out);
+    }
+
+    // `Stream::room`: as much as the whole buffer has is then there.
+    #[tactic(auto, using(crate::proofs::Staying::room_is_made))]
+    pub fn room(&mut self, need: usize)
+        ensures made { need ≤ buffer_room → has_room need self.new.out self.new.stream.used ≡ true }
+        ensures makes { MakesRoom (has_room need self.old.out self.old.stream.used) self.old.stream self.new.stream }
+        ensures keeps { KeepsBuffers self.old self.new }
+    {
+        self.stream.room(self.stdout, need, &self.out);
+    }
+
+    // `Stream::fill`.
+    pub fn fill(&mut self)
+        ensures fills { Fills (octet_waits self.old.stream.input) self.old.stream self.old.buf self.new.stream self.new.buf }
+        ensures keeps { self.new.out ≡ self.old.out }
+    {
+        self.stream
+            .fill(self.stdin, self.stdout, &mut self.buf, &self.out);
+    }
+
+    // What is read and not yet taken.
+    pub fn waiting(&self) -> &[u8]
+        ensures { result.now ≡ slice_range self.now.buf self.now.stream.input.at self.now.stream.input.end }
+    {
+        &self.buf[self.stream.input.at..self.stream.input.end]
+    }
+
+    // So many more octets are taken.
+    pub fn take(&mut self, count: usize)
+        requires { self.old.stream.input.at + count ≤ self.old.stream.input.end }
+        ensures takes { self.new.stream ≡ record self.old.stream { input = record self.old.stream.input { at = self.old.stream.input.at + count } } }
+        ensures keeps { KeepsBuffers self.old self.new }
+    {
+        self.stream.input.at += count;
+    }
+
+    // `Stream::stepped`, with the input as it stands.
+    pub fn stepped(&mut self, used: usize, ends: bool)
+        requires { used ≤ buffer_room }
+        ensures steps { StepsTo self.old.stream self.old.stream.input used ends self.new.stream }
+        ensures keeps { KeepsBuffers self.old self.new }
+    {
+        let input = self.stream.input;
+        self.stream.stepped(input, used, ends);
+    }
+}

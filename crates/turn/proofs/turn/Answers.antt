@@ -1,6 +1,0 @@
--- Telling of outcomes is the bench's turn.
-use Rattle.turn.proofs.Turning.{outcomes_taken}
-use Rattle.turn.proofs.turn.Goals as goal
-
-pub returns : goal.returns
-returns c = outcomes_taken _ _ _ _ _ _ _ _ c.tell.ensures
