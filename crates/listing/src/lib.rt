@@ -57,7 +57,7 @@ fn symbol(listing: Listing, v: u8, window: &mut [u8; 73], page: &mut Page) -> Op
     match read_frame(&window[..n + 1], Cursor { at: 0 }, &mut octets) {
         Ok(found) => {
             let octets = &octets[..found.count];
-            put_frame(place, u8::from(found.kind), found.exact, octets, page);
+            put_frame(place, found.kind, found.exact, octets, page);
             Some(Listing {
                 scan: Scan::Symbol(v),
                 before: place + n + 1,

@@ -1,11 +1,13 @@
 // The lines that are printed: one for each frame, and a last one where the record does not go on with a frame.
 // No `Display`: `Feeds` and `Finishes` promise the whole text where there is room, and else none of it (text/src/page.rt).
-// Room is a clause of each function and no type, since it is another for each and shrinks with every text.
+// Room is a clause and no type: a text takes of it, so that it holds where a function begins and not where it ends.
 ghost use Rattle.std.specs.Prelude.{◌+◌, ◌≤◌, length};
+ghost use Rattle.line.specs.Numbered.{kind_number};
 ghost use Rattle.text.specs.Put.{has_room};
 ghost use Rattle.text.specs.Page.{PutsOn, PrintsOn};
 ghost use Rattle.listing.specs.Lines.{mark_text, frame_text, no_text, bad_octet_text, frame_line_room};
 
+use line::kind::Kind;
 use text::Page;
 
 // As many digits as any place or number has.
@@ -21,19 +23,20 @@ fn put_mark(exact: bool, page: &mut Page)
     }
 }
 
-// A frame's line. Kind and number stand here as the numbers that are printed (`frame_text`, `no_text`).
-pub(crate) fn put_frame(place: usize, kind: u8, exact: bool, octets: &[u8], page: &mut Page)
+// The line of a frame.
+pub(crate) fn put_frame(place: usize, kind: Kind, exact: bool, octets: &[u8], page: &mut Page)
     requires { (length octets.now ≤ 34) × (page.old.at + frame_line_room ≤ length page.old.octets.now) }
-    ensures { PutsOn page.old (frame_text place (record { shape = record { kind = kind; octets = octets.now }; exact = exact })) page.new }
+    ensures { PutsOn page.old (frame_text place (record { shape = record { kind = kind_number kind; octets = octets.now }; exact = exact })) page.new }
 {
     page.put_decimal(place, PLACE_DIGITS);
     page.put(b' ');
-    page.put_decimal(kind as usize, 1);
+    page.put_decimal(u8::from(kind) as usize, 1);
     put_mark(exact, page);
     page.put_octets(octets);
     page.put(b'\n');
 }
 
+// The number is the text's own: 13 to 15, of which 14 is said at a record's end too (`no_text`).
 pub(crate) fn put_no(number: usize, place: usize, page: &mut Page)
     requires { page.old.at + frame_line_room ≤ length page.old.octets.now }
     ensures { PutsOn page.old (no_text number place) page.new }

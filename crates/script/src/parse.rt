@@ -6,7 +6,7 @@ ghost use Rattle.script.specs.Parse.{count_of, timed, packet_of, millivolts_of, 
 
 use text::hex::{is_hex, octet_of};
 
-// What a line says; a packet's octets stand beside it, at the beginning of those lent. A packet's kind is the number that stands there.
+// What a line says; a packet's octets stand beside it, at the beginning of those lent. A packet's kind is the number that stands there, since any is in form (`Parses`).
 #[derive(Clone, Copy)]
 pub enum Line {
     Write(u8, u8),
@@ -108,8 +108,8 @@ fn time(s: &[u8]) -> Option<Line>
 }
 
 // What follows `p `: the kind, and its octets.
-fn packet(s: &[u8], octets: &mut [u8]) -> Option<Line>
-    requires { (length s.now ≤ 253) × (84 ≤ length octets.old) }
+fn packet(s: &[u8], octets: &mut [u8; 84]) -> Option<Line>
+    requires { length s.now ≤ 253 }
     ensures { Parses (packet_of s.now) octets.old result octets.new }
 {
     let (digits, rest) = split_digits(s);
@@ -157,8 +157,8 @@ fn voltages(s: &[u8]) -> Option<Line>
 
 // What a line says that begins with a letter and a space, by the letter.
 #[tactic(auto, unfolding(crate::specs::Parse::lettered_of))]
-fn lettered(line: &[u8], octets: &mut [u8]) -> Option<Line>
-    requires { (length line.now ≤ 255) × (84 ≤ length octets.old) }
+fn lettered(line: &[u8], octets: &mut [u8; 84]) -> Option<Line>
+    requires { length line.now ≤ 255 }
     ensures { Parses (lettered_of line.now) octets.old result octets.new }
 {
     let (head, rest) = line.split_at_checked(2)?;
@@ -176,8 +176,8 @@ fn lettered(line: &[u8], octets: &mut [u8]) -> Option<Line>
 
 // What a line of at most 255 characters says, by its form.
 #[tactic(auto, using(crate::proofs::Masks::fits_length), unfolding(crate::specs::Parse::form_of))]
-fn form(line: &[u8], octets: &mut [u8]) -> Option<Line>
-    requires { (length line.now ≤ 255) × (84 ≤ length octets.old) }
+fn form(line: &[u8], octets: &mut [u8; 84]) -> Option<Line>
+    requires { length line.now ≤ 255 }
     ensures { Parses (form_of line.now) octets.old result octets.new }
 {
     if fits(b"w ## ##", line) {

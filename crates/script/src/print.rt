@@ -1,6 +1,6 @@
 // An outcome, or why there was no GoodCRC, to a line of output (01, 'On the bench table'; 02, A5).
 // No `Display`: `PrintsOutcome`, `PrintsBad` and `PrintsWhy` promise the whole line where there is room, and else none of it (text/src/page.rt).
-// Room is a clause of each function and no type, since it is another for each and shrinks with every text.
+// Room is a clause and no type: a text takes of it, so that it holds where a function begins and not where it ends.
 ghost use Rattle.std.specs.Prelude.{◌≡◌, ◌+◌, ◌≤◌, length};
 ghost use Rattle.text.specs.Page.{PutsOn, PrintsOn};
 ghost use Rattle.line.specs.Write.{frame_room};

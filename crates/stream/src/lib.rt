@@ -16,7 +16,7 @@ mod console;
 pub use console::Console;
 
 // What was read and not yet taken: the octets from at to end of the buffer.
-// No Range, which is not Copy, so that each stream that is passed on would be cloned.
+// No Range, since it is not Copy, as an input and a stream are for whoever holds one; `octet_waits` and `InBuffer` name both ends.
 #[derive(Clone, Copy)]
 pub struct Input {
     pub at: usize,
@@ -86,7 +86,8 @@ impl Stream {
         self.write_out(stdout, out);
     }
 
-    // As it stands if an octet is there to take; else `write_out` and, where the run goes on, what one read gives. That the write comes first is only run.
+    // As it stands if an octet is there to take; else `write_out` and, where the run goes on, what one read gives. That the write comes first
+    // is only run.
     pub fn fill(&mut self, stdin: Stdin, stdout: Stdout, buf: &mut [u8; 65536], out: &[u8])
         ensures { Fills (octet_waits self.old.input) self.old buf.old self.new buf.new }
     {

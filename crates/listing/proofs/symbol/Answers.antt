@@ -30,7 +30,7 @@ overflow_add-place-in-Err-WrongCrc c =
 
 pub returns-in-Ok-clause-goes : goal.returns-in-Ok-clause-goes
 returns-in-Ok-clause-goes c =
-    answers_frame c.args.listing c.args.window.now c.args.page.now.octets.now c.args.page.now.at c.requires.0 (search rules) c.requires.1 c.args.v _ _ _ refl c.read_frame.auto.octets c.read_frame.ensures _ _ _ _ c.in-Ok.is c.from.ensures c.put_frame.ensures.puts
+    answers_frame c.args.listing c.args.window.now c.args.page.now.octets.now c.args.page.now.at c.requires.0 (search rules) c.requires.1 c.args.v _ _ _ refl c.read_frame.auto.octets c.read_frame.ensures _ _ _ _ c.in-Ok.is refl c.put_frame.ensures.puts
 
 pub returns-in-Err-TooShort-clause-goes : goal.returns-in-Err-TooShort-clause-goes
 returns-in-Err-TooShort-clause-goes c =
