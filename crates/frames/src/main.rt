@@ -5,16 +5,18 @@ ghost use Rattle.std.specs.Prelude.{◌≡◌, true};
 ghost use Rattle.text.specs.Put.{has_room};
 ghost use Rattle.listing.specs.Lines.{frame_line_room};
 
+use line::write::FRAME_ROOM;
 use listing::{FRAME_LINE_ROOM, Listing, feed, finish};
 use stream::Console;
 use text::Page;
 
 // Between characters: the console, and what is held of the record.
+// Room for a line is a clause and no ghost field: it holds behind `Console::room` alone, and a text takes of it.
 #[derive(Drop)]
 struct Run {
     console: Console,
     listing: Listing,
-    window: [u8; 73],
+    window: [u8; FRAME_ROOM],
 }
 
 impl Run {
@@ -74,7 +76,7 @@ fn main(rt: HostRuntime) {
     let mut run = Run {
         console: Console::new(rt.stdin(), rt.stdout()),
         listing: listing::begin(),
-        window: [0; 73],
+        window: [0; FRAME_ROOM],
     };
     run.all();
     run.console.write_out();

@@ -18,11 +18,10 @@ use Rattle.machine.specs.Events.{read, hard_reset, value}
 use Rattle.machine.specs.Step.{accepted, reply_to, read_value, after_read}
 use Rattle.machine.proofs.Checking.{read_checks, reset_checks}
 use Rattle.fusb302.specs.declared.bits.Place.{Place}
-use Rattle.fusb302.specs.declared.bits.Place.TheVariants.{Id, Stored, Shown, Port, Nowhere}
-use Rattle.fusb302.specs.declared.fifo.Fifo.{Fifo}
+use Rattle.fusb302.specs.declared.bits.Place.TheVariants.{Id, Stored, Shown, Port}
 use Rattle.fusb302.specs.declared.device.Device.{Device}
-use Rattle.fusb302.specs.declared.device.Ints.{Ints}
-use Rattle.std.specs.Prelude.{Some, None, Ok, Err}
+use Rattle.fusb302.specs.declared.device.Outcome.{Outcome}
+use Rattle.std.specs.Prelude.{Option, Some, None, Ok, Err}
 use Rattle.fusb302.specs.declared.refusals.No.TheVariants.{SmallBuffer, NoSuchAddress, NothingHeld}
 use Rattle.fusb302.specs.Places.{Placed}
 use Rattle.fusb302.specs.Held.{held}
@@ -55,36 +54,33 @@ module _ (d : Device) (asks : Asks d) (before : List ℕ) (a : ℕ) where
 
     -- reads of other addresses than the port
     module _ (other : eqb a fifos ≡ false) (there : exists a ≡ true) (small : a < 256) where
-      pub read_of : (v : ℕ) (i : Ints) (r : length d.cells ≡ 15) → ints_of i ≡ cleared_at a (ints_of d.ints)
+      read_of : (v : ℕ) (t : Device) → view t ≡ with_ints (cleared_at a (ints_of d.ints)) (view d)
           → v ≡ cond (eqb a device_id) 0x91 (cond (is_stored a) (get_or d.cells (a - 2) 0) (get_or (shown (view d)) (a - status0a) 0))
-          → Serves (read (length before) a) d before
-          (record { device = record { cells = d.cells; tx = d.tx; rx = d.rx; status = d.status; ints = i; request = d.request; pins = d.pins; registers = r }; reply = Ok (Some v); count = 0 }) before
+          → Serves (read (length before) a) d before (record { device = t; reply = Ok (Some v); count = 0 }) before
       unfolding after_read read_value cell
-      read_of v i r p q =
-          read_gives there (rw other refl) small v _ (arranged _)
-          (rw other (ap (λ x. with_ints x (view d)) p)) (rw other q)
+      read_of v t p q = read_gives there (rw other refl) small v t (arranged t) (rw other p) (rw other q)
 
 -- ---- what stands at an address
 
-pub is_id : (a : ℕ) (p : Place) → Placed a p → p ≡ Id → a ≡ device_id
+pub is_id : (a : ℕ) (p : Place) → Placed a (Some p) → p ≡ Id → a ≡ device_id
 unfolding Placed
-is_id a p h e = subst (Placed a) e h
+is_id a p h e = subst (λ (x : Place). Placed a (Some x)) e h
 
-pub is_stored_lem : (a : ℕ) (p : Place) → Placed a p → p ≡ Stored → (2 ≤ a) × (a ≤ 0x10)
+pub is_stored_lem : (a : ℕ) (p : Place) → Placed a (Some p) → p ≡ Stored → (2 ≤ a) × (a ≤ 0x10)
 unfolding Placed
-is_stored_lem a p h e = subst (Placed a) e h
+is_stored_lem a p h e = subst (λ (x : Place). Placed a (Some x)) e h
 
-pub is_shown : (a : ℕ) (p : Place) → Placed a p → p ≡ Shown → (0x3C ≤ a) × (a ≤ 0x42)
+pub is_shown : (a : ℕ) (p : Place) → Placed a (Some p) → p ≡ Shown → (0x3C ≤ a) × (a ≤ 0x42)
 unfolding Placed
-is_shown a p h e = subst (Placed a) e h
+is_shown a p h e = subst (λ (x : Place). Placed a (Some x)) e h
 
-pub is_port : (a : ℕ) (p : Place) → Placed a p → p ≡ Port → a ≡ fifos
+pub is_port : (a : ℕ) (p : Place) → Placed a (Some p) → p ≡ Port → a ≡ fifos
 unfolding Placed
-is_port a p h e = subst (Placed a) e h
+is_port a p h e = subst (λ (x : Place). Placed a (Some x)) e h
 
-pub is_nowhere : (a : ℕ) (p : Place) → Placed a p → p ≡ Nowhere → exists a ≡ false
+pub is_nowhere : (a : ℕ) (o : Option Place) → Placed a o → o ≡ None → exists a ≡ false
 unfolding Placed
-is_nowhere a p h e = subst (Placed a) e h
+is_nowhere a o h e = subst (Placed a) e h
 
 pub at_id : (a : ℕ) → a ≡ device_id → (exists a ≡ true) × (eqb a fifos ≡ false)
 unfolding exists is_stored read_only
@@ -116,19 +112,14 @@ module _ (d : Device) (asks : Asks d) where
             ∙ simp (le-ltb (length before) frame_room room, eq-eqb (length (held d.rx)) 0 (held_length d.rx ∙ h)));
       }
 
-  pub port_read : (d.rx.len ≡ 0 → ⊥) → (v : ℕ) (rx : Fifo) (q : length d.cells ≡ 15) → v ≡ get_or (held d.rx) 0 0 → held rx ≡ drop 1 (held d.rx)
-      → PortRead d (record {
-        device = record { cells = d.cells; tx = d.tx; rx = rx; status = d.status; ints = d.ints; request = d.request; pins = d.pins; registers = q };
-        reply = Ok (Some v);
-        count = 0;
-      })
+  pub port_read : (d.rx.len ≡ 0 → ⊥) → (v : ℕ) (t : Device) → v ≡ get_or (held d.rx) 0 0 → view t ≡ with_rx (drop 1 (held d.rx)) (view d)
+      → PortRead d (record { device = t; reply = Ok (Some v); count = 0 })
   unfolding exists is_stored read_only after_read read_value
-  port_read h v rx q p r =
+  port_read h v t p q =
       record {
         serves = λ before room.
             read_gives d asks before fifos room refl
-            (ne_eqb (length (held d.rx)) 0 (λ e. h (sym (held_length d.rx) ∙ e))) (omega arith) v _
-            (arranged _) (ap (λ x. with_rx x (view d)) r) p;
+            (ne_eqb (length (held d.rx)) 0 (λ e. h (sym (held_length d.rx) ∙ e))) (omega arith) v t (arranged t) q p;
       }
 
 -- ---- a Hard Reset heard
@@ -148,29 +139,36 @@ module _ (d : Device) (asks : Asks d) (before : List ℕ) where
 
 -- ---- reads of an address
 
-module _ (d : Device) (asks : Asks d) (before : List ℕ) (room : frame_room ≤ length before) (a : ℕ) (small : a < 256) where
-  nothing_cleared : eqb a interrupta ≡ false → eqb a interruptb ≡ false → eqb a interrupt ≡ false → ints_of d.ints ≡ cleared_at a (ints_of d.ints)
+module _ (d : Device) (asks : Asks d) (before : List ℕ) (room : frame_room ≤ length before) (a : ℕ) where
+  nothing_cleared : eqb a interrupta ≡ false → eqb a interruptb ≡ false → eqb a interrupt ≡ false
+      → view d ≡ with_ints (cleared_at a (ints_of d.ints)) (view d)
   unfolding cleared_at
   nothing_cleared p q r = rw (p, q, r) refl
 
-  pub read_id : a ≡ device_id → Serves (read (length before) a) d before (record { device = d; reply = Ok (Some 0x91); count = 0 }) before
-  read_id e =
-      let w = at_id a e in
-      read_of d asks before a room w.1 w.0 small 0x91 d.ints d.registers
-      (nothing_cleared (rw e refl) (rw e refl) (rw e refl)) (rw e refl)
+  module _ (p : Place) (placed : Placed a (Some p)) where
+    pub read_id : p ≡ Id → Serves (read (length before) a) d before (record { device = d; reply = Ok (Some 0x91); count = 0 }) before
+    read_id k =
+        let e = is_id a p placed k in
+        let w = at_id a e in
+        read_of d asks before a room w.1 w.0 (omega arith) 0x91 d
+        (nothing_cleared (rw e refl) (rw e refl) (rw e refl)) (rw e refl)
 
-  pub read_stored : (2 ≤ a) × (a ≤ 0x10)
-      → Serves (read (length before) a) d before (record { device = d; reply = Ok (Some (get_or d.cells (a - 2) 0)); count = 0 }) before
-  read_stored h =
-      let w = at_stored a h.0 h.1 in
-      read_of d asks before a room w.1 w.0 small (get_or d.cells (a - 2) 0) d.ints d.registers
-      (nothing_cleared (ne_eqb a interrupta (λ e. omega arith)) (ne_eqb a interruptb (λ e. omega arith)) (ne_eqb a interrupt (λ e. omega arith)))
-      (rw (w.3, w.2) refl)
+    pub read_stored : p ≡ Stored
+        → Serves (read (length before) a) d before (record { device = d; reply = Ok (Some (get_or d.cells (a - 2) 0)); count = 0 }) before
+    read_stored k =
+        let h = is_stored_lem a p placed k in
+        let w = at_stored a h.0 h.1 in
+        read_of d asks before a room w.1 w.0 (omega arith) (get_or d.cells (a - 2) 0) d
+        (nothing_cleared (ne_eqb a interrupta (λ e. omega arith)) (ne_eqb a interruptb (λ e. omega arith)) (ne_eqb a interrupt (λ e. omega arith)))
+        (rw (w.3, w.2) refl)
 
-  pub read_shown : (0x3C ≤ a) × (a ≤ 0x42) → (v : ℕ) (i : Ints) (r : length d.cells ≡ 15) → v ≡ get_or (shown (view d)) (a - status0a) 0
-      → ints_of i ≡ cleared_at a (ints_of d.ints)
-      → Serves (read (length before) a) d before
-      (record { device = record { cells = d.cells; tx = d.tx; rx = d.rx; status = d.status; ints = i; request = d.request; pins = d.pins; registers = r }; reply = Ok (Some v); count = 0 }) before
-  read_shown h v i r p q =
-      let w = at_shown a h.0 h.1 in
-      read_of d asks before a room w.1 w.0 small v i r q (rw (w.3, w.2) p)
+    pub read_shown : p ≡ Shown → (v : ℕ) (t : Device) → v ≡ get_or (shown (view d)) (a - status0a) 0
+        → view t ≡ with_ints (cleared_at a (ints_of d.ints)) (view d)
+        → Serves (read (length before) a) d before (record { device = t; reply = Ok (Some v); count = 0 }) before
+    read_shown k v t q x =
+        let h = is_shown a p placed k in
+        let w = at_shown a h.0 h.1 in
+        read_of d asks before a room w.1 w.0 (omega arith) v t x (rw (w.3, w.2) q)
+
+    pub read_at_port : p ≡ Port → (r : Outcome) → PortRead d r → Serves (read (length before) a) d before r before
+    read_at_port k r x = rw (is_port a p placed k) (x.serves before room)

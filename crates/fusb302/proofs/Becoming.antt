@@ -11,7 +11,7 @@ use Rattle.fusb302.specs.declared.device.Device.{Device}
 use Rattle.std.specs.Prelude.{None, Ok}
 use Rattle.fusb302.specs.declared.device.Outcome.{Outcome}
 use Rattle.fusb302.specs.View.{view}
-use Rattle.fusb302.specs.Serves.{if_any, Becomes, Sends, Does, DoesQuietly}
+use Rattle.fusb302.specs.Serves.{if_any, Becomes, Sends, Does}
 use Rattle.fusb302.proofs.Showing.{arranged}
 use Rattle.fusb302.proofs.Sending.{sends_none}
 
@@ -25,9 +25,6 @@ module _ (s : State) (t : Device) (is : Becomes s t) where
   -- and then another part is replaced
   pub and_then : (f : State → State) (u : Device) → Becomes (f (view t)) u → Becomes (f s) u
   and_then f u h = record { state = h.state ∙ ap f is.state; arranged = h.arranged }
-
-  pub hushed : DoesQuietly (silent s) (done t 0)
-  hushed = record { state = is.state; arranged = is.arranged; reply = refl; count = refl; quiet = refl }
 
   module _ (before : List ℕ) where
     pub silently : Does (silent s) before (done t 0) before

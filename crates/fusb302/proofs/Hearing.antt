@@ -11,36 +11,20 @@ use native.Mathlib.Omega.{arith}
 use borrow.Author.Tests.{lt-ltb, le-ltb, le-leb, lt-leb, eq-eqb, ne_eqb}
 use lib.Dec.{eqb}
 use lib.ListN.{length, take, drop, get_or, length-take}
+use Rattle.std.proofs.lemmas.List.{get_or-drop}
 use Rattle.std.specs.Array.{IsFirstChunk}
 use Rattle.line.specs.declared.kind.SopKind.{SopKind}
 use Rattle.line.specs.Numbered.{sop_number}
 use Rattle.line.specs.Crc.{crc_right}
 use Rattle.line.specs.Frame.{Frame, Octets}
 use Rattle.line.specs.Write.{frame_room}
-use Rattle.machine.specs.Registers.{cell, has}
-use Rattle.machine.specs.Headers.{GoodCRC, Soft_Reset, control, message_id, is_control}
+use Rattle.machine.specs.Registers.{cell}
+use Rattle.machine.specs.Headers.{GoodCRC, control, message_id, is_control}
 use Rattle.machine.specs.State.{State, with_rx, with_kind, raises_b, raises}
 use Rattle.machine.specs.Status.{rx_room, I_GCRCSENT, I_ALERT}
 use Rattle.machine.specs.Queue.{spelt}
-use Rattle.machine.specs.Requests.{Effect, silent, flight_in, flight, acknowledged}
-use Rattle.machine.specs.Packets.{
-  enables,
-  kind_on,
-  fits_rx,
-  answers,
-  awaited_by,
-  awaited,
-  replies_to,
-  rx_token,
-  only_if,
-  checks,
-  soft_reset_heard,
-  keeps,
-  stores,
-  noted,
-  accepts,
-  hears,
-}
+use Rattle.machine.specs.Requests.{Effect, silent, flight_in, flight}
+use Rattle.machine.specs.Packets.{kind_on, fits_rx, answers, awaited_by, awaited, replies_to, rx_token, keeps, stores, noted, accepts, hears}
 use Rattle.machine.specs.Events.{Event, packet}
 use Rattle.machine.specs.Step.{accepted, reply_to}
 use Rattle.machine.proofs.Resetting.{reset_id}
@@ -51,8 +35,11 @@ use Rattle.fusb302.specs.declared.fifo.Fifo.{Fifo}
 use Rattle.fusb302.specs.declared.device.Device.{Device}
 use Rattle.fusb302.specs.declared.device.Request.{Request}
 use Rattle.std.specs.Prelude.{None, Ok, Err}
-use Rattle.fusb302.specs.declared.refusals.No.TheVariants.{SmallBuffer, NoSuchKind, WrongLength}
+use Rattle.fusb302.specs.declared.refusals.No.{No}
+use Rattle.fusb302.specs.declared.refusals.No.TheVariants.{SmallBuffer}
 use Rattle.fusb302.specs.declared.device.Outcome.{Outcome}
+use Rattle.fusb302.specs.Refusals.{number_of}
+use Rattle.fusb302.specs.Messages.{packet_no}
 use Rattle.fusb302.specs.Queued.{queued, spelt_as}
 use Rattle.fusb302.specs.Held.{held}
 use Rattle.fusb302.specs.View.{asked, view, Asks}
@@ -65,12 +52,15 @@ use Rattle.fusb302.proofs.Becoming.{done, and_then, silently, sending}
 -- ---- the GoodCRC that is awaited
 
 -- the MessageID is in the first two octets
-front : (n : ℕ) (l : List ℕ) → 2 ≤ n → message_id (take n l) ≡ message_id (take 2 l)
+front : (n : ℕ) (l : List ℕ) → 2 ≤ n → message_id (take n l) ≡ message_id (get_or l 0 0 ∷ get_or l 1 0 ∷ [])
 front zero l h = absurd (omega arith)
 front (suc zero) l h = absurd (omega arith)
 front (suc (suc n)) [] h = refl
 front (suc (suc n)) (x ∷ []) h = refl
 front (suc (suc n)) (x ∷ (y ∷ l)) h = refl
+
+front_of_message : (n : ℕ) (l : List ℕ) → 2 ≤ n → message_id (take n (drop 5 l)) ≡ message_id (get_or l 5 0 ∷ get_or l 6 0 ∷ [])
+front_of_message n l h = rw (← get_or-drop 5 l 0 0, ← get_or-drop 5 l 1 0) (front n (drop 5 l) h)
 
 no_answer : (k : ℕ) (m : List ℕ) (o : Option Frame) → is_control GoodCRC m ≡ false → answers k m o ≡ false
 no_answer k m none h = refl
@@ -101,7 +91,7 @@ module _ (d : Device) (k : ℕ) (m : List ℕ) where
           let nothing : none ≡ spelt (queued d.tx) = rw e at is in
           rw (active, sending, ← nothing) refl
 
-      pub awaits_message : is_control GoodCRC m ≡ true → (s : Message) → r ≡ Some s → (id : ℕ) → id ≡ message_id (take 2 (drop 5 d.tx.octets))
+      pub awaits_message : is_control GoodCRC m ≡ true → (s : Message) → r ≡ Some s → (id : ℕ) → id ≡ message_id (get_or d.tx.octets 5 0 ∷ get_or d.tx.octets 6 0 ∷ [])
           → (b : Bool) → b ≡ (eqb (sop_number s.kind) k && eqb id (message_id m)) → b ≡ awaited k m (view d)
       unfolding awaited_by flight_in
       awaits_message h s e id p-id b p =
@@ -111,7 +101,7 @@ module _ (d : Device) (k : ℕ) (m : List ℕ) where
           let long = length-take n (drop 5 d.tx.octets) in
           let two : 2 ≤ n = omega arith in
           rw (active, sending, is-sent, h)
-          (p ∙ ap (λ (i : ℕ). eqb (sop_number s.kind) k && eqb i (message_id m)) (p-id ∙ sym (front n (drop 5 d.tx.octets) two)))
+          (p ∙ ap (λ (i : ℕ). eqb (sop_number s.kind) k && eqb i (message_id m)) (p-id ∙ sym (front_of_message n d.tx.octets two)))
 
 -- ---- what is stored
 
@@ -179,13 +169,9 @@ has_room d m lt = let l = held_length d.rx in le-leb (length (held d.rx) + suc (
 pub no_room_lem : (d : Device) → (m : List ℕ) → 80 < d.rx.len + 1 + length m → fits_rx m (view d) ≡ false
 no_room_lem d m lt = let l = held_length d.rx in lt-leb (length (held d.rx) + suc (length m)) 80 (omega arith)
 
-module _ (d a b c : Device) (k : ℕ) (m : List ℕ) (w r : Bool) (awaits : w ≡ awaited k m (view d)) (resets : r ≡ is_control Soft_Reset m)
-    (checked : Becomes (checks (view d)) a) (ended : Becomes (only_if w acknowledged (view a)) b) (shown : Becomes (only_if r soft_reset_heard (view b)) c) where
+module _ (d c : Device) (k : ℕ) (m : List ℕ) (noted_in : Becomes (noted k m (view d)) c) where
   is_noted : view c ≡ noted k m (view d)
-  is_noted =
-      shown.state ∙ ap (λ (s : State). only_if r soft_reset_heard s) (ended.state ∙ ap (λ (s : State). only_if w acknowledged s) checked.state)
-      ∙ ap (λ (v : Bool). only_if r soft_reset_heard (only_if v acknowledged (checks (view d)))) awaits
-      ∙ ap (λ (v : Bool). only_if v soft_reset_heard (only_if (awaited k m (view d)) acknowledged (checks (view d)))) resets
+  is_noted = noted_in.state
 
   pub accepts_stores : fits_rx m (view c) ≡ true → (before : List ℕ) (o : Outcome) (after : List ℕ) → Does (stores k m (view c)) before o after
       → Does (accepts k m (view d)) before o after
@@ -208,14 +194,11 @@ module _ (d a b c : Device) (k : ℕ) (m : List ℕ) (w r : Bool) (awaits : w �
 -- ---- a packet heard
 
 module _ (d : Device) (k : ℕ) (m : List ℕ) (before : List ℕ) where
-  abbrev listens : Bool
-  listens = cond (eqb k 0) true (has (enables k) (get_or d.cells 5 0))
-
-  pub hears_off : listens ≡ false → Does (hears k m (view d)) before (record { device = d; reply = Ok None; count = 0 }) before
-  unfolding hears kind_on cell
+  pub hears_off : kind_on k (view d) ≡ false → Does (hears k m (view d)) before (record { device = d; reply = Ok None; count = 0 }) before
+  unfolding hears
   hears_off e = rw e (record { state = refl; arranged = arranged d; reply = refl; sends = sends_none before })
 
-  pub hears_wrong : (p : length d.cells ≡ 15) → listens ≡ true → crc_right m ≡ false
+  pub hears_wrong : (p : length d.cells ≡ 15) → kind_on k (view d) ≡ true → crc_right m ≡ false
       → Does (hears k m (view d)) before
       (record {
         device =
@@ -232,14 +215,14 @@ module _ (d : Device) (k : ℕ) (m : List ℕ) (before : List ℕ) where
         reply = Ok None;
         count = 0;
       }) before
-  unfolding hears kind_on cell
+  unfolding hears
   hears_wrong p e r =
       rw (e, r)
       (record { state = refl; arranged = arranged _; reply = refl; sends = sends_none before })
 
-  pub hears_right : listens ≡ true → crc_right m ≡ true → (o : Outcome) (after : List ℕ) → Does (accepts k m (view d)) before o after
+  pub hears_right : kind_on k (view d) ≡ true → crc_right m ≡ true → (o : Outcome) (after : List ℕ) → Does (accepts k m (view d)) before o after
       → Does (hears k m (view d)) before o after
-  unfolding hears kind_on cell
+  unfolding hears
   hears_right e r o after x = rw (e, r) x
 
 -- ---- refused, or heard
@@ -256,24 +239,15 @@ module _ (d : Device) (asks : Asks d) (before : List ℕ) (k : ℕ) (m : List �
   packet_small h = serves_no heard d before asks SmallBuffer (packet_checks (view d) (length before) k m ∙ simp (lt-ltb (length before) frame_room h))
 
   module _ (frame : List ℕ) (first : IsFirstChunk before frame frame_room) where
-    pub packet_kind : 4 < k → Serves heard d before (record { device = d; reply = Err NoSuchKind; count = 0 }) (frame ++ drop frame_room before)
-    packet_kind h =
-        serves_no_in heard d before asks frame first NoSuchKind
-        (packet_checks (view d) (length before) k m ∙ simp (le-ltb (length before) frame_room first.enough, lt-ltb 4 k h))
+    pub packet_refused : (n : No) → some (number_of n) ≡ packet_no k m
+        → Serves heard d before (record { device = d; reply = Err n; count = 0 }) (frame ++ drop frame_room before)
+    unfolding packet_no
+    packet_refused n e =
+        serves_no_in heard d before asks frame first n
+        (packet_checks (view d) (length before) k m ∙ simp (le-ltb (length before) frame_room first.enough, sym e))
 
     module _ (sop : k ≤ 4) where
-      pub packet_short : length m < 6 → Serves heard d before (record { device = d; reply = Err WrongLength; count = 0 }) (frame ++ drop frame_room before)
-      packet_short h =
-          serves_no_in heard d before asks frame first WrongLength
-          (packet_checks (view d) (length before) k m ∙ simp (le-ltb (length before) frame_room first.enough, le-ltb 4 k sop, lt-ltb (length m) 6 h))
-
       module _ (lo : 6 ≤ length m) where
-        pub packet_long : 34 < length m → Serves heard d before (record { device = d; reply = Err WrongLength; count = 0 }) (frame ++ drop frame_room before)
-        packet_long h =
-            serves_no_in heard d before asks frame first WrongLength
-            (packet_checks (view d) (length before) k m
-            ∙ simp (le-ltb (length before) frame_room first.enough, le-ltb 4 k sop, le-ltb (length m) 6 lo, lt-ltb 34 (length m) h))
-
         pub packet_heard : length m ≤ 34 → ((i : ℕ) → get_or m i 0 < 256) → (o : Outcome) (after : List ℕ)
             → Does (hears k m (view d)) frame o after → Serves heard d before o (after ++ drop frame_room before)
         unfolding accepted reply_to

@@ -7,6 +7,7 @@ pub mod Showing
 pub mod Answering
 pub mod Sending
 pub mod Becoming
+pub mod Storing
 pub mod Waiting
 pub mod Refusing
 pub mod Writing

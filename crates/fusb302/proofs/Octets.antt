@@ -12,6 +12,9 @@ use lib.Dec.{T, eqb, eqb→eq}
 use lib.ListN.{length}
 use Rattle.line.proofs.Table.{all, at}
 use Rattle.machine.specs.Headers.{header, heard_header, is_control}
+use Rattle.fusb302.specs.declared.header.ControlMessage.{ControlMessage}
+use Rattle.fusb302.specs.declared.header.ControlMessage.TheVariants.{GoodCrc, SoftReset}
+use Rattle.fusb302.specs.Messages.{type_number}
 
 -- ---- built
 
@@ -35,6 +38,11 @@ agree f g passed x i t h k l =
     (at (λ x. all (λ i. all (λ t. eqb (f x i t) (g x i t)) 16) 8) 16 passed x h)
     i k)
     t l)
+
+-- a type has four bits
+pub four_bits : (message : ControlMessage) → type_number message < 16
+four_bits GoodCrc = omega arith
+four_bits SoftReset = omega arith
 
 module _ (code kind sw id : ℕ) (h : sw < 256) (k : id < 8) (l : code < 16) where
   high : sw / 16 < 16

@@ -2,7 +2,7 @@
 -- Assumes nothing.
 use Rattle.std.specs.Bool.{then_some}
 use Rattle.std.specs.List.{ends_with, find}
-use Rattle.std.specs.Option.{option_map}
+use Rattle.std.specs.Option.{option_map, unwrap_or, MatchOption}
 use Rattle.std.specs.Prelude as rust
 use Rattle.std.specs.Cmp.Lexicographic.{pointwise}
 use mathlib.Core.Path.{◌≡◌, refl, sym, ap, ◌∙◌}
@@ -49,6 +49,11 @@ same_slices (x ∷ l) (y ∷ s) = rw (same_numbers x y, same_slices l s) refl
 
 pub pushed : (octets : List ℕ) (len b : ℕ) → len < length octets → take (len + 1) (set octets len b) ≡ take len octets ++ (b ∷ [])
 pushed octets len b h = rw (add-one len, take-suc-set octets len b h)
+
+-- a token that announces nothing announces 0
+pub announced_or : (o : rust.Option ℕ) (n : ℕ) → MatchOption o (n ≡ 0) (λ k. (k ≡ n) × (0 < k)) → unwrap_or o 0 ≡ n
+announced_or rust.None n e = sym e
+announced_or (rust.Some k) n e = e.0
 
 after : (n b : ℕ) → (n ≡ 0 → ⊥) → to_come n (b ∷ []) ≡ n - 1
 unfolding to_come

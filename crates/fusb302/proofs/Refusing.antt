@@ -12,21 +12,7 @@ use lib.ListN.{length, get_or}
 use Rattle.std.specs.Prelude as rust
 use Rattle.std.specs.Prelude.{Some, None, Result, Ok, Err, ⊤}
 use Rattle.line.specs.Write.{frame_room}
-use Rattle.machine.specs.Registers.{
-  cell,
-  device_id,
-  switches1,
-  control0,
-  control3,
-  fifos,
-  is_stored,
-  read_only,
-  exists,
-  has,
-  TX_FLUSH,
-  TX_START,
-  SEND_HARD_RESET,
-}
+use Rattle.machine.specs.Registers.{cell, switches1, control0, control3, fifos, is_stored, read_only, exists, has, TX_FLUSH, TX_START, SEND_HARD_RESET}
 use Rattle.machine.specs.State.{State, reg}
 use Rattle.machine.specs.Status.{tx_room}
 use Rattle.machine.specs.Queue.{START, set_symbol, is_token, inside, is_message, is_some}
@@ -37,13 +23,16 @@ use Rattle.machine.proofs.Checking.{write_checks}
 use Rattle.machine.proofs.Spelling.{spelt_nil}
 use Rattle.fusb302.specs.declared.device.Device.{Device}
 use Rattle.fusb302.specs.declared.device.Request.{Request}
+use Rattle.fusb302.specs.declared.bits.Place.{Place}
+use Rattle.fusb302.specs.declared.bits.Place.TheVariants.{Id, Shown}
+use Rattle.fusb302.specs.Places.{Placed}
 use Rattle.fusb302.specs.Queued.{queued}
 use Rattle.fusb302.specs.View.{request_of, view}
 use Rattle.fusb302.specs.declared.refusals.No.{No}
 use Rattle.fusb302.specs.declared.refusals.No.TheVariants.{NoSuchAddress, ReadOnly, RequestOpen, NotAToken, NotAMessage}
 use Rattle.fusb302.specs.Serves.{no_of, sending_no, start_no, storing_no, Refuses}
 use Rattle.fusb302.proofs.Showing.{queued_length}
-use Rattle.fusb302.proofs.Answering.{at_id, at_stored, at_shown}
+use Rattle.fusb302.proofs.Answering.{is_id, is_shown, at_id, at_stored, at_shown}
 
 -- ---- a start
 
@@ -188,15 +177,17 @@ module _ (s : State) (a v : ℕ) where
   read_only_lem : exists a ≡ true → read_only a ≡ true → Refuses s a v (Err ReadOnly)
   read_only_lem e k = record { is = λ room h. write_checks s room a v ∙ rw (le-ltb room frame_room h, e, k) refl }
 
-  pub write_id : a ≡ device_id → Refuses s a v (Err ReadOnly)
-  unfolding read_only
-  write_id e = read_only_lem (at_id a e).0 (rw e refl)
+  module _ (p : Place) (placed : Placed a (Some p)) where
+    pub write_id : p ≡ Id → Refuses s a v (Err ReadOnly)
+    unfolding read_only
+    write_id k = let e = is_id a p placed k in read_only_lem (at_id a e).0 (rw e refl)
 
-  pub write_shown : (0x3C ≤ a) × (a ≤ 0x42) → Refuses s a v (Err ReadOnly)
-  unfolding read_only
-  write_shown h =
-      let w = at_shown a h.0 h.1 in
-      read_only_lem w.0 (rw (w.3, le-leb 0x3C a h.0, le-leb a 0x42 h.1) refl)
+    pub write_shown : p ≡ Shown → Refuses s a v (Err ReadOnly)
+    unfolding read_only
+    write_shown k =
+        let h = is_shown a p placed k in
+        let w = at_shown a h.0 h.1 in
+        read_only_lem w.0 (rw (w.3, le-leb 0x3C a h.0, le-leb a 0x42 h.1) refl)
 
   -- an address that is written, other than the port, is stored
   pub taken_stored : Refuses s a v (Ok tt) → (a ≡ fifos → ⊥) → (2 ≤ a) × (a ≤ 0x10)

@@ -8,37 +8,52 @@ use mathlib.Core.List.{List, [], ◌∷◌, append-nil}
 use mathlib.Core.Option.{none, some}
 use Prim.Native.Nat.{ℕ, zero, suc, ◌+◌, ◌-◌, ◌<◌, ◌≤◌}
 use native.Mathlib.Omega.{arith}
-use borrow.Author.Tests.{lt-ltb, le-ltb, eq-eqb}
+use borrow.Author.Tests.{lt-ltb, le-ltb}
 use lib.ListN.{length, take, drop, length-take, length-drop, length-append}
 use lib.Seq.{take-take}
 use Rattle.std.specs.Prelude.{Result, Ok, Err}
 use Rattle.line.specs.declared.write.WriteError.{WriteError}
-use Rattle.line.specs.Numbered.{sop_number}
-use Rattle.line.specs.Kind.{kinds}
-use Rattle.line.specs.Frame.{Frame, Whole, message, alone, symbols_of, joined}
+use Rattle.line.specs.declared.kind.Kind.{Kind}
+use Rattle.line.specs.declared.kind.Kind.TheVariants as line
+use Rattle.line.specs.Numbered.{sop_number, kind_number}
+use Rattle.line.specs.Kind.{kinds, sop_kinds, carries}
+use Rattle.line.specs.Frame.{Frame, symbols_of, joined}
 use Rattle.line.specs.Refusal.{first_no}
 use Rattle.line.specs.Write.{frame_room, wrong_length, writer_rows, wrote, lent, Writes}
-use Rattle.line.proofs.Writing.{carrying, bare}
+use Rattle.line.proofs.Writing.{carrying}
 use Rattle.line.proofs.Outcomes.{one_meaning_written}
 use Rattle.machine.specs.Queue.{spelt}
 use Rattle.machine.proofs.Spelling.{set_four, spelt_exactly}
 use Rattle.fusb302.specs.declared.queue.Queue.{Queue}
 use Rattle.fusb302.specs.declared.queue.Message.{Message}
 use Rattle.fusb302.specs.Queued.{queued, spelt_as}
-use Rattle.fusb302.specs.Serves.{if_any, Sends}
+use Rattle.fusb302.specs.Serves.{Sends}
+use Rattle.fusb302.proofs.Queueing.{sop_below}
 
 -- ---- a whole frame
 
-right_length : (f : Frame) → Whole f → (f.kind < kinds) × (wrong_length f.kind (length f.octets) ≡ false)
+-- as many octets as the writer takes: of a message, and of a Hard Reset
+pub fits_message : (k n : ℕ) → k < sop_kinds → 2 ≤ n → n ≤ 30 → wrong_length k n ≡ false
 unfolding wrong_length
-right_length f (message h o lo hi) = (omega arith, simp (carrying f.kind h, le-ltb (length f.octets) 2 lo, le-ltb 30 (length f.octets) hi))
-right_length f (alone h k e) = (k, simp (bare f.kind h, eq-eqb (length f.octets) 0 (ap length e)))
+fits_message k n h lo hi = simp (carrying k h, le-ltb n 2 lo, le-ltb 30 n hi)
+
+pub fits_reset : wrong_length 5 0 ≡ false
+unfolding wrong_length carries
+fits_reset = refl
+
+below_kinds : (k : Kind) → kind_number k < kinds
+below_kinds (line.Message s) = omega (arith, sop_below s)
+below_kinds line.HardReset = omega arith
 
 -- written where there is room for any
-module _ (f : Frame) (before : List ℕ) (r : Result ℕ WriteError) (after : List ℕ) (whole : Whole f) (room : frame_room ≤ length before) (w : Writes f before r after) where
+module _ (k : Kind) (l before : List ℕ) (r : Result ℕ WriteError) (after : List ℕ) (fits : wrong_length (kind_number k) (length l) ≡ false) (room : frame_room ≤ length before)
+    (w : Writes (record { kind = kind_number k; octets = l }) before r after) where
+  abbrev f : Frame
+  f = record { kind = kind_number k; octets = l }
+
   accepts : first_no (writer_rows f (length before)) ≡ none
   unfolding first_no
-  accepts = let h = right_length f whole in simp (le-ltb (length before) frame_room room, lt-ltb f.kind kinds h.0, h.1)
+  accepts = simp (le-ltb (length before) frame_room room, lt-ltb (kind_number k) kinds (below_kinds k), fits)
 
   pub put_said : r ≡ Ok (length (symbols_of f))
   unfolding wrote
@@ -77,11 +92,6 @@ counted q k n e =
 
 -- what was answered of it
 module _ (tx : Queue) (r : rust.Option Message) (is : spelt_as r (queued tx) ≡ spelt (queued tx)) where
-  pub unspelt : r ≡ None → (before : List ℕ) → Sends (if_any (spelt (queued tx))) before 0 before
-  unspelt e before =
-      let nothing : none ≡ spelt (queued tx) = rw e at is in
-      rw (← nothing) (sends_none before)
-
   module _ (m : Message) (e : r ≡ Some m) where
     pub by_count : spelt (queued tx) ≡ some (record { kind = sop_number m.kind; octets = take m.count (drop 5 (queued tx)) })
     by_count = sym (rw e at is)
@@ -99,3 +109,6 @@ module _ (tx : Queue) (r : rust.Option Message) (is : spelt_as r (queued tx) ≡
     spelt_in_array =
         let less : 5 + m.count - 5 ≡ m.count = omega arith in
         by_count ∙ ap (λ l. some (record { kind = sop_number m.kind; octets = l })) (rw less (within 5 m.count tx.len tx.octets inside.0))
+
+    pub spelt_fits : wrong_length (sop_number m.kind) (length (take (5 + m.count - 5) (drop 5 tx.octets))) ≡ false
+    spelt_fits = let s = (spelt_exactly (queued tx) _).0 spelt_in_array in fits_message _ _ s.sop s.many s.few

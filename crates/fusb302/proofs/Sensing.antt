@@ -3,18 +3,15 @@
 use mathlib.Core.Path.{◌≡◌, refl, ap, ◌∙◌}
 use mathlib.Core.Bool.{Bool, true, false, not, beq}
 use mathlib.Core.List.{List}
-use Prim.Native.Nat.{ℕ, ◌+◌, ◌<◌, ◌≤◌, ◌^◌}
-use native.Mathlib.Omega.{arith}
+use Prim.Native.Nat.{ℕ, ◌<◌, ◌≤◌, ◌^◌}
 use borrow.Author.Tests.{lt-ltb, le-ltb}
-use lib.Dec.{eqb}
-use lib.ListN.{length, get_or}
+use lib.ListN.{length}
 use Rattle.line.specs.Frame.{joined}
 use Rattle.line.specs.Write.{frame_room}
-use Rattle.machine.specs.Registers.{cell}
 use Rattle.machine.specs.State.{raises}
 use Rattle.machine.specs.Pins.{above, levels, cc_reference, vbus_reference, measured, steps, vbus_ok_of, bc_lvl_of, comp_of, readings}
 use Rattle.machine.specs.Pins as comparators
-use Rattle.machine.specs.Status.{flag, differ, changes, I_VBUSOK, I_COMP_CHNG, I_BC_LVL}
+use Rattle.machine.specs.Status.{differ, changes}
 use Rattle.machine.specs.Events.{sense}
 use Rattle.machine.specs.Step.{senses, accepted, reply_to}
 use Rattle.machine.proofs.Checking.{sense_checks}
@@ -23,37 +20,18 @@ use Rattle.std.specs.Prelude.{None, Ok, Err}
 use Rattle.fusb302.specs.declared.refusals.No.TheVariants.{SmallBuffer}
 use Rattle.fusb302.specs.declared.pins.Millivolts.{Millivolts}
 use Rattle.fusb302.specs.declared.pins.Readings.{Readings}
-use Rattle.fusb302.specs.Sensed.{pins_of, shown_as}
+use Rattle.fusb302.specs.Sensed.{shown_as}
 use Rattle.fusb302.specs.View.{view, Asks}
 use Rattle.fusb302.specs.Serves.{Becomes, Serves}
 use Rattle.fusb302.proofs.Serving.{serves_no, serves_yes}
 
--- ---- BC_LVL
+-- ---- what has changed of what is shown
 
-pub three_steps : (x y z v : ℕ) (p q r : Bool) → p ≡ above 200 v → q ≡ above 660 v → r ≡ above 1230 v
-    → x ≡ flag 1 p → y ≡ flag 1 q → z ≡ flag 1 r → x + y + z ≡ steps levels v
-three_steps x y z v p q r e f g h i j = rw (← e, ← f, ← g) (omega arith)
-
--- ---- what is shown, and what has changed of it
-
-pub shows : (d : Device) (a b : Bool) (n : ℕ) → a ≡ vbus_ok_of (pins_of d.pins)
-    → b ≡ comp_of (get_or d.cells 0 0) (get_or d.cells 2 0) (get_or d.cells 9 0) (pins_of d.pins)
-    → n ≡ bc_lvl_of (get_or d.cells 0 0) (get_or d.cells 9 0) (pins_of d.pins)
-    → shown_as (record { vbus_ok = a; comp = b; bc_lvl = n }) ≡ readings (view d)
-unfolding readings cell
-shows d a b n p q r = rw (← p, ← q, ← r) refl
-
-differ_is : (a b : Bool) → not (beq a b) ≡ differ a b
+pub differ_is : (a b : Bool) → not (beq a b) ≡ differ a b
 differ_is true true = refl
 differ_is true false = refl
 differ_is false true = refl
 differ_is false false = refl
-
-pub changed : (x y : Readings) (a b c : ℕ) → a ≡ flag I_VBUSOK (not (beq x.vbus_ok y.vbus_ok))
-    → b ≡ flag I_COMP_CHNG (not (beq x.comp y.comp)) → c ≡ flag I_BC_LVL (not (eqb x.bc_lvl y.bc_lvl))
-    → a + b + c ≡ changes (shown_as x) (shown_as y)
-unfolding changes
-changed x y a b c g h i = rw (← differ_is x.vbus_ok y.vbus_ok, ← differ_is x.comp y.comp) (omega arith)
 
 -- ---- the event
 

@@ -37,7 +37,6 @@ use Rattle.machine.specs.Requests.{
 use Rattle.machine.specs.Events.{pass}
 use Rattle.machine.specs.Step.{accepted, reply_to}
 use Rattle.machine.proofs.Checking.{pass_checks}
-use Rattle.fusb302.specs.declared.queue.Queue.{Queue}
 use Rattle.fusb302.specs.declared.queue.Message.{Message}
 use Rattle.fusb302.specs.declared.device.Device.{Device}
 use Rattle.fusb302.specs.declared.device.Request.{Request}
@@ -50,14 +49,6 @@ use Rattle.fusb302.specs.Serves.{if_any, Becomes, Sends, Does, Serves}
 use Rattle.fusb302.proofs.Serving.{serves_no, serves_no_in, serves_in}
 use Rattle.fusb302.proofs.Sending.{by_count}
 use Rattle.fusb302.proofs.Becoming.{done, itself, and_then, silently, sending, if_sending}
-
--- ---- a request that goes on
-
--- a request that became another is open as that
-module _ (s : State) (t : Device) (is : Becomes s t) (r : Request) (x : machine.Request) (goes : asked r ≡ x)
-    (u : Device) (h : Becomes (with_request (some (asked r)) (view t)) u) where
-  pub goes_on_lem : Becomes (with_request (some x) s) u
-  goes_on_lem = and_then s t is (with_request (some x)) u (subst (λ y. Becomes (with_request (some y) (view t)) u) goes h)
 
 -- ---- failures
 
@@ -88,48 +79,61 @@ module _ (d t : Device) (q : Request) (before : List ℕ) where
         let x = soft_reset_follows w (asked q) (spelt (queued d.tx)) over-now in
         subst (λ (b : Bool). Does (cond b x (silent over-now)) before r after) (sym e) on
 
--- ---- the Soft_Reset on the kind of the message that a queue spelt
+-- ---- the Soft_Reset on the kind of the message that the queue spelt
 
-module _ (d : Device) (tx : Queue) (q : Request) (w : ℕ) (before : List ℕ) (o : rust.Option Message) (is : spelt_as o (queued tx) ≡ spelt (queued tx)) where
-  pub follows_nothing : o ≡ None → Does (soft_reset_follows w (asked q) (spelt (queued tx)) (view d)) before (done d 0) before
+module _ (d t : Device) (q : Request) (before : List ℕ) (o : rust.Option Message) (is : spelt_as o (queued d.tx) ≡ spelt (queued d.tx))
+    (failed : Becomes (raises_a I_RETRYFAIL (shows RETRYFAIL (over (view d)))) t) (soft : q.soft ≡ true) where
+  pub follows_nothing : o ≡ None → Does (message_fails q.waited (asked q) (view d)) before (done t 0) before
   follows_nothing e =
-      let nothing : none ≡ spelt (queued tx) = rw e at is in
-      rw (← nothing) (silently _ d (itself d) before)
+      let nothing : none ≡ spelt (queued d.tx) = rw e at is in
+      message_soft d t q before q.waited failed soft (done t 0) before (rw (← nothing) (silently _ t (itself t) before))
 
   module _ (m : Message) (e : o ≡ Some m) where
     abbrev k : ℕ
     k = sop_number m.kind
 
-    pub follows_on : (r : Request) → asked r ≡ goes_on (soft_reset k) 0 w (asked q)
-        → (u : Device) → Becomes (with_request (some (asked r)) (view d)) u → (c : ℕ) (after : List ℕ)
-        → Sends (soft_reset_of k (asked q) ∷ []) before c after → Does (soft_reset_follows w (asked q) (spelt (queued tx)) (view d)) before (done u c) after
-    follows_on r goes u h c after sent =
-        rw (by_count tx o is m e)
-        (sending _ u (goes_on_lem (view d) d (itself d) r _ goes u h) before c after (soft_reset_of k (asked q)) sent)
+    pub follows_on : (u : Device) → Becomes (with_request (some (goes_on (soft_reset k) 0 q.waited (asked q))) (view t)) u → (c : ℕ) (after : List ℕ)
+        → Sends (soft_reset_of k (asked q) ∷ []) before c after → Does (message_fails q.waited (asked q) (view d)) before (done u c) after
+    follows_on u h c after sent =
+        message_soft d t q before q.waited failed soft (done u c) after
+        (rw (by_count d.tx o is m e) (sending _ u h before c after (soft_reset_of k (asked q)) sent))
 
 -- ---- a wait that ran out
 
-module _ (d : Device) (old : Request) (w : ℕ) (before : List ℕ) where
-  pub expires_again : old.sent < old.retries → (q : Request)
-      → asked q ≡ goes_on (phase_of old.resetting) (old.sent + 1) w (asked old)
-      → (u : Device) → Becomes (with_request (some (asked q)) (view d)) u → (n : ℕ) (after : List ℕ)
+-- the request's own wait is that of the next
+module _ (s : State) (w : ℕ) (q : machine.Request) where
+  abbrev waiting : Phase → ℕ → machine.Request
+  waiting p n = record { switches1 = q.switches1; retries = q.retries; soft = q.soft; hard = q.hard; phase = p; sent = q.sent; waited = n }
+
+  of_waits : (p : Phase) → expires w (waiting p w) s ≡ expires w (waiting p q.waited) s
+  unfolding expires flight_in fails message_fails soft_fails
+  of_waits message = refl
+  of_waits (soft_reset k) = refl
+
+  pub own_wait : expires w (goes_on q.phase q.sent w q) s ≡ expires w q s
+  own_wait = of_waits q.phase
+
+module _ (d : Device) (old : Request) (before : List ℕ) where
+  pub expires_again : old.sent < old.retries
+      → (u : Device) → Becomes (with_request (some (goes_on (phase_of old.resetting) (old.sent + 1) old.waited (asked old))) (view d)) u
+      → (n : ℕ) (after : List ℕ)
       → Sends (if_any (flight_in (phase_of old.resetting) (asked old) (queued d.tx))) before n after
-      → Does (expires w (asked old) (view d)) before (done u n) after
+      → Does (expires old.waited (asked old) (view d)) before (done u n) after
   unfolding expires
-  expires_again h q goes u x n after sent =
+  expires_again h u x n after sent =
       rw (lt-ltb old.sent old.retries h, ← add-one old.sent)
-      (if_sending _ u (goes_on_lem (view d) d (itself d) q _ goes u x) before n after
+      (if_sending _ u x before n after
       (flight (view d) (asked old)) sent)
 
   -- what was in flight failed
   pub expires_last : (r : Outcome) (after : List ℕ) → old.retries ≤ old.sent → (p : Phase)
-      → phase_of old.resetting ≡ p → Does (fails p w (asked old) (view d)) before r after
-      → Does (expires w (asked old) (view d)) before r after
+      → phase_of old.resetting ≡ p → Does (fails p old.waited (asked old) (view d)) before r after
+      → Does (expires old.waited (asked old) (view d)) before r after
   unfolding expires
   expires_last r after last p e h =
       rw (
         le-ltb old.sent old.retries last,
-        ap (λ (x : Phase). fails x w (asked old) (view d)) e,
+        ap (λ (x : Phase). fails x old.waited (asked old) (view d)) e,
       )
       h
 
@@ -164,18 +168,17 @@ module _ (d : Device) (asks : Asks d) (before : List ℕ) (us : ℕ) where
         is : request_of d.request ≡ some (asked old)
         is = ap request_of open-as
 
-        pub pass_waits : old.waited + us < 1000 → (q : Request)
-            → asked q ≡ goes_on (phase_of old.resetting) old.sent (old.waited + us) (asked old)
-            → (u : Device) → Becomes (with_request (some (asked q)) (view d)) u → Serves (pass (length before) us) d before (done u 0) (frame ++ drop frame_room before)
+        pub pass_waits : old.waited + us < 1000
+            → (u : Device) → Becomes (with_request (some (goes_on (phase_of old.resetting) old.sent (old.waited + us) (asked old))) (view d)) u → Serves (pass (length before) us) d before (done u 0) (frame ++ drop frame_room before)
         unfolding passes elapses
-        pass_waits h q goes u x =
+        pass_waits h u x =
             passed _ is _ frame
             (rw (lt-ltb (old.waited + us) 1000 h)
-            (silently _ u (goes_on_lem (view d) d (itself d) q _ goes u x) frame))
+            (silently _ u x frame))
 
-        pub pass_expires : 1000 ≤ old.waited + us → (r : Outcome) (after : List ℕ)
-            → Does (expires (old.waited + us - 1000) (asked old) (view d)) frame r after
+        pub pass_expires : 1000 ≤ old.waited + us → (r : Outcome) (after : List ℕ) (w : ℕ) → w ≡ old.waited + us - 1000
+            → Does (expires w (goes_on (phase_of old.resetting) old.sent w (asked old)) (view d)) frame r after
             → Serves (pass (length before) us) d before r (after ++ drop frame_room before)
         unfolding passes elapses
-        pass_expires h r after x =
-            passed _ is r after (rw (le-ltb (old.waited + us) 1000 h) x)
+        pass_expires h r after w e x =
+            passed _ is r after (rw (le-ltb (old.waited + us) 1000 h, ← e, ← own_wait (view d) w (asked old)) x)

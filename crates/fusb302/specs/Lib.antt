@@ -1,6 +1,7 @@
 -- How the code is the machine: what stands at an address, the parts of a device and what they hold.
 pub mod Places
 pub mod Refusals
+pub mod Messages
 pub mod Queued
 pub mod Held
 pub mod Sensed

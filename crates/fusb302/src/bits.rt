@@ -5,6 +5,8 @@ ghost use Rattle.machine.specs.Status.{flag};
 ghost use Rattle.machine.specs.Requests.{driver_on, retries_of};
 ghost use Rattle.fusb302.specs.Places.{Placed};
 
+use crate::device::Device;
+
 // Switches0
 pub(crate) const MEAS_CC2: u8 = 0x08;
 
@@ -150,16 +152,15 @@ pub(crate) enum Place {
     Stored,
     Shown,
     Port,
-    Nowhere,
 }
 
 // The range of what is shown, and each other address by itself (01, 'How each place should look').
 #[tactic(auto, unfolding(crate::specs::Places::Placed, machine::specs::Registers::exists, machine::specs::Registers::is_stored, machine::specs::Registers::read_only))]
-pub(crate) fn place_of(address: u8) -> Place
+pub(crate) fn place_of(address: u8) -> Option<Place>
     ensures { Placed address result }
 {
     match address {
-        0x01 => Place::Id,
+        0x01 => Some(Place::Id),
         0x02
         | 0x03
         | 0x04
@@ -174,23 +175,20 @@ pub(crate) fn place_of(address: u8) -> Place
         | 0x0D
         | 0x0E
         | 0x0F
-        | 0x10 => Place::Stored,
-        0x3C..=0x42 => Place::Shown,
-        0x43 => Place::Port,
-        _ => Place::Nowhere,
+        | 0x10 => Some(Place::Stored),
+        0x3C..=0x42 => Some(Place::Shown),
+        0x43 => Some(Place::Port),
+        _ => None,
     }
 }
-
-const STORED_BITS: [u8; 15] = [
-    0xFF, 0xF7, 0x7F, 0xFF, 0x2E, 0x73, 0xEF, 0x3F, 0xFF, 0x0F, 0x00, 0x0F, 0xFF, 0x01, 0x01,
-];
 
 // The bits of a register that are stored.
 pub(crate) fn stored_bits(address: u8) -> u8
     requires { (2 ≤ address) × (address ≤ 0x10) }
     ensures { result ≡ get_or stored_bits (address - 2) 0 }
 {
-    STORED_BITS[(address - 2) as usize]
+    let (_, stored) = Device::REGISTERS[(address - 2) as usize];
+    stored
 }
 
 // Whether some bit of a mask is 1.

@@ -1,9 +1,10 @@
 // The device: registers, both FIFOs, interrupts, the request that is open, and the voltages on its pins.
 ghost use Rattle.std.specs.Prelude.{◌≡◌, Some, None, Ok, Err, length};
 ghost use Rattle.std.proofs.Math.Option.{some};
+ghost use Rattle.machine.specs.Registers.{resets};
 ghost use Rattle.machine.specs.Status.{cleared_at};
 ghost use Rattle.machine.specs.State.{cleared, with_request, shows, hides, raises_a, raises_b, raises};
-ghost use Rattle.machine.specs.Requests.{fail_bits, over, goes_on};
+ghost use Rattle.machine.specs.Requests.{fail_bits, over};
 
 use crate::bits::{RETRYFAIL, SOFTFAIL};
 use crate::fifo::Fifo;
@@ -11,9 +12,6 @@ use crate::pins::{Millivolts, Pins};
 use crate::queue::Queue;
 use crate::refusals::No;
 use line::kind::SopKind;
-
-// The longest frame (01, 'Numbers of no', 12).
-pub(crate) const FRAME_ROOM: usize = 73;
 
 #[derive(Clone, Copy)]
 pub struct Status {
@@ -44,7 +42,7 @@ pub struct Request {
 // `Good` is no ghost field: between two steps of one event it need not hold, so that methods ask for `Asks`.
 #[derive(Clone, Copy)]
 pub struct Device {
-    pub(crate) cells: [u8; Device::REGISTERS],
+    pub(crate) cells: [u8; Device::REGISTERS.len()],
     pub(crate) tx: Queue,
     pub(crate) rx: Fifo,
     pub(crate) status: Status,
@@ -57,7 +55,7 @@ pub struct Device {
 // Nothing or the octet that was read; or why the event is refused.
 pub type Reply = Result<Option<u8>, No>;
 
-// What an event gives back: the device, its reply, and how many of the lent symbols it sent.
+// What an event gives back: the device, its reply, and how many of the lent symbols it sent; a count, since `Serves` speaks of the lent ones, whole.
 #[derive(Clone, Copy)]
 pub struct Outcome {
     pub device: Device,
@@ -82,6 +80,7 @@ impl Status {
 impl Ints {
     ghost use Rattle.fusb302.specs.View.{ints_of};
 
+    #[tactic(auto, unfolding(machine::specs::Status::cleared_at))]
     pub(crate) fn cleared(mut self, address: u8) -> Ints
         ensures { ints_of result ≡ cleared_at address (ints_of self) }
     {
@@ -95,37 +94,41 @@ impl Ints {
     }
 }
 
-impl Request {
-    ghost use Rattle.fusb302.specs.View.{phase_of, asked};
-
-    // The same request in another phase, with another count of retries and wait.
-    pub(crate) fn goes_on(mut self, resetting: Option<SopKind>, sent: u8, waited: u16) -> Request
-        ensures { asked result ≡ goes_on (phase_of resetting) sent waited (asked self) }
-    {
-        self.resetting = resetting;
-        self.sent = sent;
-        self.waited = waited;
-        self
-    }
-}
-
 impl Device {
     ghost use Rattle.fusb302.specs.View.{asked, view, PoweredUp};
     ghost use Rattle.fusb302.specs.Serves.{Becomes};
 
-    // 02 to 10
-    const REGISTERS: usize = 15;
-
-    // 01, 'Registers': the reset values.
-    const RESETS: [u8; Device::REGISTERS] = [
-        0x03, 0x20, 0x31, 0x60, 0x24, 0x00, 0x02, 0x06, 0x00, 0x01, 0x00, 0x0F, 0x00, 0x00, 0x00,
+    // 01, 'Registers': of 02 to 10 the reset value and the bits that are stored.
+    pub(crate) const REGISTERS: [(u8, u8); 15] = [
+        (0x03, 0xFF), // Switches0
+        (0x20, 0xF7), // Switches1
+        (0x31, 0x7F), // Measure
+        (0x60, 0xFF), // Slice
+        (0x24, 0x2E), // Control0
+        (0x00, 0x73), // Control1
+        (0x02, 0xEF), // Control2
+        (0x06, 0x3F), // Control3
+        (0x00, 0xFF), // Mask
+        (0x01, 0x0F), // Power
+        (0x00, 0x00), // Reset
+        (0x0F, 0x0F), // OCPreg
+        (0x00, 0xFF), // Maska
+        (0x00, 0x01), // Maskb
+        (0x00, 0x01), // Control4
     ];
 
+    fn resets() -> [u8; Device::REGISTERS.len()]
+        ensures { result ≡ resets }
+    {
+        Device::REGISTERS.map(|(reset, _)| reset)
+    }
+
+    #[tactic(auto, using(machine::proofs::Keeping::power_up_good))]
     pub fn power_up() -> Device
         ensures { PoweredUp result }
     {
         Device {
-            cells: Device::RESETS,
+            cells: Device::resets(),
             tx: Queue::empty(),
             rx: Fifo::empty(),
             status: Status::cleared(),
@@ -197,8 +200,7 @@ impl Device {
     pub(crate) fn shows(mut self, bits: u8) -> Device
         ensures { Becomes (shows bits (view self)) result }
     {
-        let shown = self.status.status0a | bits;
-        self.status.status0a = shown;
+        self.status.status0a |= bits;
         self
     }
 
@@ -206,8 +208,7 @@ impl Device {
     pub(crate) fn hides_fails(mut self) -> Device
         ensures { Becomes (hides fail_bits (view self)) result }
     {
-        let hidden = self.status.status0a & !(SOFTFAIL | RETRYFAIL);
-        self.status.status0a = hidden;
+        self.status.status0a &= !(SOFTFAIL | RETRYFAIL);
         self
     }
 
@@ -215,8 +216,7 @@ impl Device {
     pub(crate) fn raises_a(mut self, bits: u8) -> Device
         ensures { Becomes (raises_a bits (view self)) result }
     {
-        let raised = self.ints.a | bits;
-        self.ints.a = raised;
+        self.ints.a |= bits;
         self
     }
 
@@ -224,8 +224,7 @@ impl Device {
     pub(crate) fn raises_b(mut self, bits: u8) -> Device
         ensures { Becomes (raises_b bits (view self)) result }
     {
-        let raised = self.ints.b | bits;
-        self.ints.b = raised;
+        self.ints.b |= bits;
         self
     }
 
@@ -233,8 +232,7 @@ impl Device {
     pub(crate) fn raises(mut self, bits: u8) -> Device
         ensures { Becomes (raises bits (view self)) result }
     {
-        let raised = self.ints.main | bits;
-        self.ints.main = raised;
+        self.ints.main |= bits;
         self
     }
 }

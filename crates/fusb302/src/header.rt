@@ -1,60 +1,129 @@
-// Message headers: those the device builds, and the fields of those it hears (01, 'Line code (PD)', header).
+// Control messages that the device builds, and the packets that it hears (01, 'Line code (PD)', header).
 ghost use Rattle.std.specs.Prelude.{◌≡◌, ◌≤◌, ◌<◌, length};
 ghost use Rattle.line.specs.Numbered.{sop_number};
-ghost use Rattle.machine.specs.Headers.{header, two_octets, heard_header, message_id, is_control};
+ghost use Rattle.machine.specs.Headers.{heard_header, message_id, is_control};
 
+use crate::refusals::No;
 use line::kind::SopKind;
 
-pub(crate) const GOOD_CRC: u8 = 1;
+// The control messages that the device sends or looks for.
+#[derive(Clone, Copy)]
+pub(crate) enum ControlMessage {
+    GoodCrc,
+    SoftReset,
+}
 
-pub(crate) const SOFT_RESET: u8 = 0xD;
+impl From<ControlMessage> for u16 {
+    ghost use Rattle.fusb302.specs.Messages.{type_number};
 
-// A header alone: type, roles and revision of Switches1, MessageID, count 0. Both roles are 0 on kinds 1 to 4.
-fn header(code: u8, kind: SopKind, switches1: u8, id: u8) -> u16
-    requires { (code < 16) × (id < 8) }
-    ensures { result ≡ header code (sop_number kind) switches1 id }
-{
-    let sw = switches1 as u16;
-    let common = (((sw >> 5) & 3) << 6) | ((id as u16) << 9) | (code as u16);
-    if kind == SopKind::Sop {
-        return (((sw >> 4) & 1) << 5) | (((sw >> 7) & 1) << 8) | common;
+    ghost from_gives = { λ message n. n ≡ type_number message };
+
+    fn from(message: ControlMessage) -> u16 {
+        match message {
+            ControlMessage::GoodCrc => 1,
+            ControlMessage::SoftReset => 0xD,
+        }
     }
-    common
 }
 
-// The two octets of a message that is a header alone, low octet first.
-#[tactic(auto, unfolding(machine::specs::Headers::two_octets))]
-pub(crate) fn control(code: u8, kind: SopKind, switches1: u8, id: u8) -> [u8; 2]
-    requires { (code < 16) × (id < 8) }
-    ensures { result ≡ two_octets (header code (sop_number kind) switches1 id) }
-{
-    header(code, kind, switches1, id).to_le_bytes()
+// A message that is a header alone: its type, kind and MessageID, and the Switches1 that its roles and revision are of.
+#[derive(Clone, Copy)]
+pub(crate) struct Control {
+    pub(crate) message: ControlMessage,
+    pub(crate) kind: SopKind,
+    pub(crate) switches1: u8,
+    pub(crate) id: u8,
+    ghost three_bits: { id < 8 },
 }
 
-// The header of a packet.
-fn heard(packet: &[u8]) -> u16
-    requires { 2 ≤ length packet.now }
-    ensures { result ≡ heard_header packet.now }
-{
-    u16::from_le_bytes([packet[0], packet[1]])
-}
+impl Control {
+    ghost use Rattle.machine.specs.Headers.{header};
+    ghost use Rattle.fusb302.specs.Messages.{type_number, frame_of};
 
-// MessageID: bits 11:9.
-pub(crate) fn message_id(packet: &[u8]) -> u8
-    requires { 2 ≤ length packet.now }
-    ensures { (result ≡ message_id packet.now) × (result < 8) }
-{
-    ((heard(packet) >> 9) & 7) as u8
-}
-
-// Whether a packet with its CRC is a control message of a type: bits 3:0, no data objects (14:12), two octets and the CRC's four.
-#[tactic(auto, using(crate::proofs::Octets::tested, crate::proofs::Octets::other), unfolding(machine::specs::Headers::is_control))]
-pub(crate) fn is_control(code: u8, packet: &[u8]) -> bool
-    ensures { result ≡ is_control code packet.now }
-{
-    if packet.len() != 6 {
-        return false;
+    // Both roles are 0 on kinds 1 to 4, and the count is 0.
+    #[tactic(auto, using(crate::proofs::Octets::on_sop, crate::proofs::Octets::elsewhere, crate::proofs::Octets::four_bits))]
+    fn header(self) -> u16
+        ensures { result ≡ header (type_number self.message) (sop_number self.kind) self.switches1 self.id }
+    {
+        let sw = self.switches1 as u16;
+        let common = (((sw >> 5) & 3) << 6) | ((self.id as u16) << 9) | u16::from(self.message);
+        if self.kind == SopKind::Sop {
+            return (((sw >> 4) & 1) << 5) | (((sw >> 7) & 1) << 8) | common;
+        }
+        common
     }
-    let h = heard(packet);
-    h & 15 == code as u16 && (h >> 12) & 7 == 0
+
+    // Low octet first.
+    #[tactic(auto, unfolding(machine::specs::Headers::two_octets))]
+    pub(crate) fn octets(self) -> [u8; 2]
+        ensures { result ≡ (frame_of self).octets }
+    {
+        self.header().to_le_bytes()
+    }
+}
+
+// MessageID of a header: bits 11:9.
+pub(crate) fn message_id(header: [u8; 2]) -> u8
+    ensures { (result ≡ message_id header) × (result < 8) }
+{
+    ((u16::from_le_bytes(header) >> 9) & 7) as u8
+}
+
+// A packet heard: its kind, and its octets, of which the last four are the CRC.
+#[derive(Clone, Copy)]
+pub(crate) struct Packet<'a> {
+    pub(crate) kind: SopKind,
+    pub(crate) octets: &'a [u8],
+    ghost least: { 6 ≤ length octets.now },
+    ghost most: { length octets.now ≤ 34 },
+}
+
+impl<'a> Packet<'a> {
+    ghost use Rattle.std.specs.Prelude.{◌&&◌, eqb};
+    ghost use Rattle.fusb302.specs.Messages.{type_number, Takes};
+
+    // Any number may be given for a kind, and any octets.
+    #[tactic(auto, unfolding(crate::specs::Messages::packet_no))]
+    pub(crate) fn new(kind: u32, octets: &'a [u8]) -> Result<Packet<'a>, No>
+        ensures { Takes kind octets.entry result }
+    {
+        let Ok(kind) = SopKind::try_from(kind) else {
+            return Err(No::NoSuchKind);
+        };
+        if octets.len() < 6 || 34 < octets.len() {
+            return Err(No::WrongLength);
+        }
+        Ok(Packet { kind, octets })
+    }
+
+    fn header(self) -> [u8; 2]
+        ensures { heard_header result ≡ heard_header self.entry.octets.now }
+    {
+        [self.octets[0], self.octets[1]]
+    }
+
+    pub(crate) fn message_id(self) -> u8
+        ensures { (result ≡ message_id self.entry.octets.now) × (result < 8) }
+    {
+        message_id(self.header())
+    }
+
+    // Whether it is a control message of a type: bits 3:0, no data objects (14:12), two octets and the CRC's four.
+    #[tactic(auto, using(crate::proofs::Octets::tested, crate::proofs::Octets::other), unfolding(machine::specs::Headers::is_control))]
+    pub(crate) fn is_control(self, message: ControlMessage) -> bool
+        ensures { result ≡ is_control (type_number message) self.entry.octets.now }
+    {
+        if self.octets.len() != 6 {
+            return false;
+        }
+        let header = u16::from_le_bytes(self.header());
+        header & 15 == u16::from(message) && (header >> 12) & 7 == 0
+    }
+
+    // Whether its kind and MessageID are those that were sent.
+    pub(crate) fn answers(self, sent: SopKind, id: u8) -> bool
+        ensures { result ≡ (eqb (sop_number sent) (sop_number self.entry.kind) && eqb id (message_id self.entry.octets.now)) }
+    {
+        sent == self.kind && id == self.message_id()
+    }
 }

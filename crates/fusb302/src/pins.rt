@@ -14,8 +14,9 @@ use crate::bits::{
     I_BC_LVL, I_COMP_CHNG, I_VBUSOK, MDAC, MEAS_CC1, MEAS_CC2, MEAS_VBUS, MEASURE, POWER, PWR2,
     SWITCHES0, flag, has,
 };
-use crate::device::{Device, FRAME_ROOM, Outcome};
+use crate::device::{Device, Outcome};
 use crate::refusals::No;
+use line::write::FRAME_ROOM;
 
 // A voltage, on a pin or as a threshold.
 #[derive(Clone, Copy, Debug, PartialEq, Eq, PartialOrd, Ord)]
@@ -135,6 +136,7 @@ fn comp(switches0: u8, measure: u8, power: u8, pins: Pins) -> bool
 }
 
 // The interrupts of what differs.
+#[tactic(auto, using(crate::proofs::Sensing::differ_is), unfolding(machine::specs::Status::changes))]
 fn changes(before: Readings, now: Readings) -> u8
     ensures { result ≡ changes (shown_as before) (shown_as now) }
 {
@@ -145,16 +147,16 @@ fn changes(before: Readings, now: Readings) -> u8
 
 impl Device {
     // What the comparators show.
+    #[tactic(auto, unfolding(machine::specs::Pins::readings, machine::specs::Registers::cell))]
     pub(crate) fn readings(self) -> Readings
         ensures { (shown_as result ≡ readings (view self)) × (result.bc_lvl ≤ 3) }
     {
-        let cells = self.cells;
-        let pins = self.pins;
-        let vbus = pins.vbus;
+        let switches0 = self.cells[SWITCHES0];
+        let power = self.cells[POWER];
         Readings {
-            vbus_ok: vbus.above(VBUS_THRESHOLD),
-            comp: comp(cells[SWITCHES0], cells[MEASURE], cells[POWER], pins),
-            bc_lvl: bc_lvl(cells[SWITCHES0], cells[POWER], pins),
+            vbus_ok: self.pins.vbus.above(VBUS_THRESHOLD),
+            comp: comp(switches0, self.cells[MEASURE], power, self.pins),
+            bc_lvl: bc_lvl(switches0, power, self.pins),
         }
     }
 
@@ -162,11 +164,11 @@ impl Device {
     pub(crate) fn reports(self, before: Readings) -> Device
         ensures { Becomes (raises (changes (shown_as before) (readings (view self))) (view self)) result }
     {
-        let now = self.readings();
-        self.raises(changes(before, now))
+        self.raises(changes(before, self.readings()))
     }
 
     // Gives the voltages on CC1, CC2 and VBUS.
+    #[tactic(auto, using(crate::proofs::Sensing::sense_small))]
     pub fn sense(
         mut self,
         cc1: Millivolts,
@@ -181,8 +183,7 @@ impl Device {
             return self.refuse(No::SmallBuffer);
         }
         let before = self.readings();
-        let pins = Pins { cc1, cc2, vbus };
-        self.pins = pins;
+        self.pins = Pins { cc1, cc2, vbus };
         self.reports(before).done(0)
     }
 }

@@ -1,5 +1,5 @@
 // The transmit queue (01, 'The transmit queue'): tokens, counted blocks, and the message that it spells.
-ghost use Rattle.std.specs.Prelude.{◌≡◌, ◌≤◌, length, take};
+ghost use Rattle.std.specs.Prelude.{◌≡◌, ◌≤◌, ◌<◌, length, take, MatchOption};
 ghost use Rattle.machine.specs.Queue.{announced, is_token, to_come};
 
 use line::kind::SopKind;
@@ -24,14 +24,14 @@ const SETS: [([u8; 4], SopKind); 5] = [
     (*b"\x12\x16\x1B\x13", SopKind::SopDoublePrimeDebug),
 ];
 
-// How many data octets a token announces.
+// How many data octets a token announces, if it announces any.
 #[tactic(auto, unfolding(machine::specs::Queue::announced))]
-pub(crate) fn announced(token: u8) -> u8
-    ensures { result ≡ announced token }
+fn announced(token: u8) -> Option<u8>
+    ensures { MatchOption result (announced token ≡ 0) (λ n. (n ≡ announced token) × (0 < n)) }
 {
     match token {
-        0x82..=0x9E => token - 0x80,
-        _ => 0,
+        0x82..=0x9E => Some(token - 0x80),
+        _ => None,
     }
 }
 
@@ -65,7 +65,7 @@ pub(crate) struct Message {
 }
 
 impl Queue {
-    ghost use Rattle.std.specs.Prelude.{[], ◌∷◌, ◌++◌, ◌<◌};
+    ghost use Rattle.std.specs.Prelude.{[], ◌∷◌, ◌++◌};
     ghost use Rattle.machine.specs.Queue.{spelt};
     ghost use Rattle.fusb302.specs.Queued.{queued, spelt_as, sop_kind, kind_of};
 
@@ -89,7 +89,7 @@ impl Queue {
         self.octets[self.len] = octet;
         self.len += 1;
         self.left = if self.left == 0 {
-            announced(octet)
+            announced(octet).unwrap_or(0)
         } else {
             self.left - 1
         };
@@ -105,11 +105,12 @@ impl Queue {
             .map(|(_, kind)| *kind)
     }
 
+    #[tactic(auto, using(crate::proofs::Queueing::spelt_uncounted, crate::proofs::Queueing::spelt_misfit, crate::proofs::Queueing::spelt_unset, crate::proofs::Queueing::spelt_set))]
     pub(crate) fn message(self) -> Option<Message>
         ensures { spelt_as result (queued self) ≡ spelt (queued self) }
     {
-        let count = announced(self.octets[4]) as usize;
-        if count == 0 || self.len != count + 8 {
+        let count = announced(self.octets[4])? as usize;
+        if self.len != count + 8 {
             return None;
         }
         let kind = self.kind()?;

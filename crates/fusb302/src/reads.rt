@@ -9,11 +9,12 @@ use crate::bits::{
     ALERT, COMP, CONTROL0, CRC_CHK, INT_MASK, MASK, MASKA, MASKB, Place, RX_EMPTY, RX_FULL, RXSOP,
     RXSOP1, RXSOP1DB, RXSOP2, RXSOP2DB, TX_EMPTY, TX_FULL, VBUSOK, flag, has, place_of,
 };
-use crate::device::{Device, FRAME_ROOM, Outcome};
+use crate::device::{Device, Outcome};
 use crate::fifo::Fifo;
 use crate::queue::Queue;
 use crate::refusals::No;
 use line::kind::SopKind;
+use line::write::FRAME_ROOM;
 
 // Either FIFO full.
 fn either_full(rx: usize, tx: usize) -> bool
@@ -37,6 +38,7 @@ impl Device {
         }
     }
 
+    #[tactic(auto, using(crate::proofs::Showing::held_length, crate::proofs::Showing::queued_length), unfolding(machine::specs::Status::status0_of))]
     fn status0(self) -> u8
         ensures { result ≡ status0_of (view self) }
     {
@@ -60,16 +62,15 @@ impl Device {
         }
     }
 
+    #[tactic(auto, using(crate::proofs::Showing::held_length, crate::proofs::Showing::queued_length), unfolding(machine::specs::Status::status1_of))]
     fn status1(self) -> u8
         ensures { result ≡ status1_of (view self) }
     {
-        let rx = self.rx.len;
-        let tx = self.tx.len;
         self.rx_kind()
-            + flag(RX_EMPTY, rx == 0)
-            + flag(RX_FULL, rx == Fifo::CAPACITY)
-            + flag(TX_EMPTY, tx == 0)
-            + flag(TX_FULL, tx == Queue::CAPACITY)
+            + flag(RX_EMPTY, self.rx.len == 0)
+            + flag(RX_FULL, self.rx.len == Fifo::CAPACITY)
+            + flag(TX_EMPTY, self.tx.len == 0)
+            + flag(TX_FULL, self.tx.len == Queue::CAPACITY)
     }
 
     fn shown(self, address: u8) -> u8
@@ -93,29 +94,28 @@ impl Device {
         requires { Asks self }
         ensures { Level self result }
     {
-        let cells = self.cells;
-        let unmasked = has(!cells[MASKA], self.ints.a)
-            || has(!cells[MASKB], self.ints.b)
-            || has(!cells[MASK], self.ints.main);
-        has(INT_MASK, cells[CONTROL0]) || !unmasked
+        let unmasked = has(!self.cells[MASKA], self.ints.a)
+            || has(!self.cells[MASKB], self.ints.b)
+            || has(!self.cells[MASK], self.ints.main);
+        has(INT_MASK, self.cells[CONTROL0]) || !unmasked
     }
 
     // ---- reads
 
+    #[tactic(auto, using(crate::proofs::Answering::port_empty, crate::proofs::Answering::port_read))]
     fn read_port(mut self) -> Outcome
         requires { Asks self }
         ensures { PortRead self result }
     {
-        let rx = self.rx;
-        if rx.len == 0 {
+        if self.rx.len == 0 {
             return self.refuse(No::NothingHeld);
         }
-        let octet = rx.first();
-        let rest = rx.rest();
-        self.rx = rest;
+        let octet = self.rx.first();
+        self.rx = self.rx.rest();
         self.give(octet)
     }
 
+    #[tactic(auto, using(crate::proofs::Answering::is_stored_lem, crate::proofs::Answering::is_shown, crate::proofs::Answering::is_nowhere, crate::proofs::Answering::read_small, crate::proofs::Answering::read_nowhere, crate::proofs::Answering::read_id, crate::proofs::Answering::read_stored, crate::proofs::Answering::read_at_port))]
     pub fn read(mut self, address: u8, symbols: &mut [u8]) -> Outcome
         requires { Asks self }
         ensures { Serves (read (length symbols.old) address) self symbols.old result symbols.new }
@@ -123,22 +123,18 @@ impl Device {
         if symbols.len() < FRAME_ROOM {
             return self.refuse(No::SmallBuffer);
         }
-        match place_of(address) {
+        let Some(place) = place_of(address) else {
+            return self.refuse(No::NoSuchAddress);
+        };
+        match place {
             Place::Id => self.give(0x91),
-            Place::Stored => {
-                let cells = self.cells;
-                let at = (address - 2) as usize;
-                self.give(cells[at])
-            }
+            Place::Stored => self.give(self.cells[(address - 2) as usize]),
             Place::Shown => {
                 let octet = self.shown(address);
-                let ints = self.ints;
-                let after = ints.cleared(address);
-                self.ints = after;
+                self.ints = self.ints.cleared(address);
                 self.give(octet)
             }
             Place::Port => self.read_port(),
-            Place::Nowhere => self.refuse(No::NoSuchAddress),
         }
     }
 }

@@ -1,8 +1,6 @@
 // The open request: its start, its waits and retries, and how it ends (01, 'The transmit queue').
-ghost use Rattle.std.specs.Prelude.{◌≤◌, length};
-ghost use Rattle.line.specs.Frame.{Octets};
-ghost use Rattle.machine.specs.Queue.{spelt};
-ghost use Rattle.machine.specs.Requests.{flight_in, start, soft_reset_follows, message_fails, soft_fails, expires};
+ghost use Rattle.std.specs.Prelude.{length};
+ghost use Rattle.machine.specs.Requests.{flight_in, start, message_fails, soft_fails, expires};
 ghost use Rattle.machine.specs.Events.{pass, hard_reset};
 ghost use Rattle.fusb302.specs.Queued.{queued};
 ghost use Rattle.fusb302.specs.View.{phase_of, asked, view, Asks};
@@ -12,50 +10,66 @@ use crate::bits::{
     AUTO_HARDRESET, AUTO_SOFTRESET, CONTROL3, HARDRST, I_HARDRST, I_HARDSENT, I_RETRYFAIL,
     I_SOFTFAIL, RETRYFAIL, SOFTFAIL, SWITCHES1, has, retries_of,
 };
-use crate::device::{Device, FRAME_ROOM, Outcome, Request};
-use crate::header::SOFT_RESET;
-use crate::queue::Queue;
+use crate::device::{Device, Outcome, Request};
+use crate::header::{Control, ControlMessage};
 use crate::refusals::No;
 use crate::send::{put, put_control, put_message};
-use line::kind::Kind;
+use line::kind::{Kind, SopKind};
+use line::write::FRAME_ROOM;
 
 // Microseconds: how long a frame waits for its GoodCRC, and the most that pass in one event (01, 'Start', 10).
 const WAIT: u32 = 1000;
 
 const LONGEST_PASS: u32 = 1000;
 
+impl Request {
+    ghost use Rattle.std.specs.Prelude.{◌≡◌};
+    ghost use Rattle.line.specs.Numbered.{sop_number};
+    ghost use Rattle.machine.specs.Requests.{soft_reset_of};
+    ghost use Rattle.fusb302.specs.Messages.{frame_of};
+
+    // The Soft_Reset that follows where its message failed, on that message's kind (02, A2).
+    fn soft_reset(self, kind: SopKind) -> Control
+        ensures { frame_of result ≡ soft_reset_of (sop_number kind) (asked self) }
+    {
+        Control {
+            message: ControlMessage::SoftReset,
+            kind,
+            switches1: self.switches1,
+            id: 0,
+        }
+    }
+}
+
 impl Device {
     // ---- start
 
     // Opens a request for the message that the queue spells, and sends it.
     pub(crate) fn begin(self, frame: &mut [u8; FRAME_ROOM]) -> Outcome
-        requires { Octets (queued self.tx) }
         ensures { Does (start (view self)) frame.old result frame.new }
     {
-        let cells = self.cells;
-        let tx = self.tx;
         let request = Request {
-            switches1: cells[SWITCHES1],
-            retries: retries_of(cells[CONTROL3]),
-            soft: has(AUTO_SOFTRESET, cells[CONTROL3]),
-            hard: has(AUTO_HARDRESET, cells[CONTROL3]),
+            switches1: self.cells[SWITCHES1],
+            retries: retries_of(self.cells[CONTROL3]),
+            soft: has(AUTO_SOFTRESET, self.cells[CONTROL3]),
+            hard: has(AUTO_HARDRESET, self.cells[CONTROL3]),
             resetting: None,
             sent: 0,
             waited: 0,
         };
-        let count = put_message(tx, frame);
+        let count = put_message(self.tx, frame);
         self.hides_fails().requests(request).done(count)
     }
 
     // ---- time
 
     // What the request sends and sends again.
+    #[tactic(auto, unfolding(machine::specs::Requests::flight_in))]
     fn put_flight(self, request: Request, frame: &mut [u8; FRAME_ROOM]) -> usize
-        requires { Octets (queued self.tx) }
         ensures { Sends (if_any (flight_in (phase_of request.resetting) (asked request) (queued self.tx))) frame.old result frame.new }
     {
         match request.resetting {
-            Some(kind) => put_control(SOFT_RESET, kind, request.switches1, 0, frame),
+            Some(kind) => put_control(request.soft_reset(kind), frame),
             None => put_message(self.tx, frame),
         }
     }
@@ -72,53 +86,40 @@ impl Device {
         failed.done(0)
     }
 
-    // The Soft_Reset follows, on the kind of the message that the queue spelt (02, A2).
-    fn soft_reset_follows(
-        self,
-        tx: Queue,
-        request: Request,
-        waited: u16,
-        frame: &mut [u8; FRAME_ROOM],
-    ) -> Outcome
-        ensures { Does (soft_reset_follows waited (asked request) (spelt (queued tx)) (view self)) frame.old result frame.new }
-    {
-        let Some(message) = tx.message() else {
-            return self.done(0);
-        };
-        let kind = message.kind;
-        let count = put_control(SOFT_RESET, kind, request.switches1, 0, frame);
-        self.requests(request.goes_on(Some(kind), 0, waited))
-            .done(count)
-    }
-
-    // The message failed: a Soft_Reset follows if that was latched.
-    fn message_fails(self, request: Request, waited: u16, frame: &mut [u8; FRAME_ROOM]) -> Outcome
-        ensures { Does (message_fails waited (asked request) (view self)) frame.old result frame.new }
+    // The message failed: a Soft_Reset follows on its kind, if that was latched (02, A2).
+    fn message_fails(self, mut request: Request, frame: &mut [u8; FRAME_ROOM]) -> Outcome
+        ensures { Does (message_fails request.waited (asked request) (view self)) frame.old result frame.new }
     {
         let failed = self.over().shows(RETRYFAIL).raises_a(I_RETRYFAIL);
-        if request.soft {
-            return failed.soft_reset_follows(self.tx, request, waited, frame);
+        if !request.soft {
+            return failed.done(0);
         }
-        failed.done(0)
+        let Some(message) = self.tx.message() else {
+            return failed.done(0);
+        };
+        let count = put_control(request.soft_reset(message.kind), frame);
+        request.resetting = Some(message.kind);
+        request.sent = 0;
+        failed.requests(request).done(count)
     }
 
-    // A wait ran out, and so many microseconds of the next have passed.
-    fn expire(self, request: Request, waited: u16, frame: &mut [u8; FRAME_ROOM]) -> Outcome
-        requires { Asks self }
-        ensures { Does (expires waited (asked request) (view self)) frame.old result frame.new }
+    // A wait ran out: what was in flight is sent again, or fails. The request's wait is the next one's.
+    fn expire(self, mut request: Request, frame: &mut [u8; FRAME_ROOM]) -> Outcome
+        ensures { Does (expires request.waited (asked request) (view self)) frame.old result frame.new }
     {
         if request.sent < request.retries {
             let count = self.put_flight(request, frame);
-            let again = request.goes_on(request.resetting, request.sent + 1, waited);
-            return self.requests(again).done(count);
+            request.sent += 1;
+            return self.requests(request).done(count);
         }
         match request.resetting {
             Some(_) => self.soft_fails(request, frame),
-            None => self.message_fails(request, waited, frame),
+            None => self.message_fails(request, frame),
         }
     }
 
     // Lets time pass.
+    #[tactic(auto, using(crate::proofs::Waiting::pass_small, crate::proofs::Waiting::pass_long, crate::proofs::Waiting::pass_idle, crate::proofs::Waiting::pass_waits))]
     pub fn pass(mut self, microseconds: u32, symbols: &mut [u8]) -> Outcome
         requires { Asks self }
         ensures { Serves (pass (length symbols.old) microseconds) self symbols.old result symbols.new }
@@ -129,15 +130,16 @@ impl Device {
         if LONGEST_PASS < microseconds {
             return self.refuse(No::TimeTooLong);
         }
-        let Some(request) = self.request else {
+        let Some(mut request) = self.request else {
             return self.done(0);
         };
         let waited = request.waited as u32 + microseconds;
         if waited < WAIT {
-            let waits = request.goes_on(request.resetting, request.sent, waited as u16);
-            return self.requests(waits).done(0);
+            request.waited = waited as u16;
+            return self.requests(request).done(0);
         }
-        self.expire(request, (waited - WAIT) as u16, frame)
+        request.waited = (waited - WAIT) as u16;
+        self.expire(request, frame)
     }
 
     // ---- a Hard Reset heard

@@ -1,17 +1,14 @@
 // Why was there no GoodCRC? (02, A5)
-ghost use Rattle.std.specs.Prelude.{◌≤◌, length};
 ghost use Rattle.line.specs.Numbered.{sop_number};
 ghost use Rattle.fusb302.specs.View.{Asks};
 ghost use Rattle.fusb302.specs.Why.{Explains, ExplainsHeard};
 
-use crate::bits::{AUTO_CRC, AUTO_PRE, CONTROL0, CONTROL1, SWITCHES1, driver_on, has};
+use crate::bits::{AUTO_CRC, AUTO_PRE, CONTROL0, SWITCHES1, driver_on, has};
 use crate::device::Device;
 use crate::fifo::Fifo;
-use crate::header::{GOOD_CRC, is_control};
-use crate::packets::kind_on;
+use crate::header::{ControlMessage, Packet};
 use crate::refusals::No;
 use line::crc::right;
-use line::kind::SopKind;
 
 // The first reason why no reply leaves for a packet, or that one does. `Leaves` is one of the ten answers that 02 names, and no lack of one.
 #[derive(Clone, Copy)]
@@ -29,46 +26,43 @@ pub enum Why {
 
 impl Device {
     // Of a packet that is not refused.
-    fn why_heard(self, kind: SopKind, packet: &[u8]) -> Why
-        requires { length packet.now ≤ 34 }
-        ensures { ExplainsHeard self (sop_number kind) packet.now result }
+    #[tactic(auto, using(crate::proofs::Hearing::has_room, crate::proofs::Hearing::no_room_lem), unfolding(machine::specs::Why::first_cause, machine::specs::Registers::cell))]
+    fn why_heard(self, packet: Packet) -> Why
+        ensures { ExplainsHeard self (sop_number packet.entry.kind) packet.entry.octets.now result }
     {
-        let cells = self.cells;
-        if !kind_on(kind, cells[CONTROL1]) {
+        if !self.kind_on(packet.kind) {
             return Why::KindOff;
         }
-        if !right(packet) {
+        if !right(packet.octets) {
             return Why::CrcWrong;
         }
-        if Fifo::CAPACITY < self.rx.len + 1 + packet.len() {
+        if Fifo::CAPACITY < self.rx.len + 1 + packet.octets.len() {
             return Why::NoRoom;
         }
-        if is_control(GOOD_CRC, packet) {
+        if packet.is_control(ControlMessage::GoodCrc) {
             return Why::IsGoodCrc;
         }
-        if !has(AUTO_CRC, cells[SWITCHES1]) {
+        if !has(AUTO_CRC, self.cells[SWITCHES1]) {
             return Why::AutoCrcOff;
         }
-        if has(AUTO_PRE, cells[CONTROL0]) {
+        if has(AUTO_PRE, self.cells[CONTROL0]) {
             return Why::AutoPreOn;
         }
-        if !driver_on(cells[SWITCHES1]) {
+        if !driver_on(self.cells[SWITCHES1]) {
             return Why::DriverOff;
         }
         Why::Leaves
     }
 
     // Why a packet, its kind and its octets with CRC, would get no GoodCRC now. The device is only read. Any kind is answered (`Explains`).
+    #[tactic(auto, using(crate::proofs::Explaining::refused_by, crate::proofs::Explaining::taken, crate::proofs::Queueing::sop_four))]
     pub fn why(self, kind: u32, octets: &[u8]) -> Why
         requires { Asks self }
         ensures { Explains self kind octets.now result }
     {
-        let Ok(kind) = SopKind::try_from(kind) else {
-            return Why::Refused(No::NoSuchKind);
-        };
-        if octets.len() < 6 || 34 < octets.len() {
-            return Why::Refused(No::WrongLength);
+        match Packet::new(kind, octets) {
+            Ok(packet) => self.why_heard(packet),
+            Err(no) => Why::Refused(no),
         }
-        self.why_heard(kind, octets)
     }
 }

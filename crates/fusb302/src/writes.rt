@@ -1,9 +1,8 @@
 // Writes: what refuses one, and what one does (01, 'Registers', 'The transmit queue', 'Numbers of no').
-ghost use Rattle.std.specs.Prelude.{◌≡◌, true, false, ◌&&◌, ◌≤◌, ◌<◌, leb, eqb, length, Ok};
+ghost use Rattle.std.specs.Prelude.{◌≡◌, true, false, not, ◌&&◌, ◌≤◌, ◌<◌, leb, eqb, length, Ok};
 ghost use Rattle.machine.specs.Status.{tx_room};
-ghost use Rattle.line.specs.Frame.{Octets};
 ghost use Rattle.machine.specs.Registers.{control0, control3, fifos, has, TX_FLUSH, TX_START};
-ghost use Rattle.machine.specs.Queue.{START, is_message};
+ghost use Rattle.machine.specs.Queue.{START, is_message, is_token};
 ghost use Rattle.machine.specs.Requests.{driver_on};
 ghost use Rattle.machine.specs.Events.{write};
 ghost use Rattle.machine.specs.Step.{restored, pd_reset, queues, control0_written, control1_written, control3_written, reset_written, port_written, written};
@@ -15,18 +14,26 @@ use crate::bits::{
     I_ALERT, I_HARDSENT, PD_RESET, Place, RX_FLUSH, SEND_HARD_RESET, SW_RES, SWITCHES1, TX_FLUSH,
     TX_START, driver_on, has, place_of, stored_bits,
 };
-use crate::device::{Device, FRAME_ROOM, Outcome, Status};
+use crate::device::{Device, Outcome, Status};
 use crate::fifo::Fifo;
 use crate::queue::{Queue, START, is_token};
 use crate::refusals::No;
 use crate::send::put;
 use line::kind::Kind;
+use line::write::FRAME_ROOM;
 
 // Whether an octet at the port starts a request: A1 where it is not data.
 fn is_start(left: u8, octet: u8) -> bool
     ensures { result ≡ (eqb left 0 && eqb octet START) }
 {
     left == 0 && octet == START
+}
+
+// Whether an octet at the port is out of place: no token where it is not data.
+fn is_stray(left: u8, octet: u8) -> bool
+    ensures { result ≡ (eqb left 0 && not (is_token octet)) }
+{
+    left == 0 && !is_token(octet)
 }
 
 // What is sent needs the driver.
@@ -58,22 +65,23 @@ fn may_store(held: usize) -> Result<(), No>
 impl Device {
     // ---- what a write is refused for
 
+    #[tactic(auto, using(crate::proofs::Refusing::port_busy, crate::proofs::Refusing::port_start_lem, crate::proofs::Refusing::port_bad, crate::proofs::Refusing::port_store))]
     fn may_write_port(self, octet: u8) -> Result<(), No>
         ensures { Refuses (view self) fifos octet result }
     {
         if self.request.is_some() {
             return Err(No::RequestOpen);
         }
-        let tx = self.tx;
-        if is_start(tx.left, octet) {
-            return may_start(tx, self.cells[SWITCHES1]);
+        if is_start(self.tx.left, octet) {
+            return may_start(self.tx, self.cells[SWITCHES1]);
         }
-        if tx.left == 0 && !is_token(octet) {
+        if is_stray(self.tx.left, octet) {
             return Err(No::NotAToken);
         }
-        may_store(tx.len)
+        may_store(self.tx.len)
     }
 
+    #[tactic(auto, using(crate::proofs::Refusing::control0_quiet, crate::proofs::Refusing::control0_busy, crate::proofs::Refusing::control0_flush, crate::proofs::Refusing::control0_start))]
     fn may_write_control0(self, value: u8) -> Result<(), No>
         ensures { Refuses (view self) control0 value result }
     {
@@ -86,10 +94,10 @@ impl Device {
         if has(TX_FLUSH, value) {
             return Err(No::NotAMessage);
         }
-        let tx = self.tx;
-        may_start(tx, self.cells[SWITCHES1])
+        may_start(self.tx, self.cells[SWITCHES1])
     }
 
+    #[tactic(auto, using(crate::proofs::Refusing::control3_quiet, crate::proofs::Refusing::control3_sends))]
     fn may_write_control3(self, value: u8) -> Result<(), No>
         ensures { Refuses (view self) control3 value result }
     {
@@ -99,6 +107,7 @@ impl Device {
         Ok(())
     }
 
+    #[tactic(auto, using(crate::proofs::Refusing::not_command))]
     fn may_write_register(self, address: u8, value: u8) -> Result<(), No>
         requires { (2 ≤ address) × (address ≤ 0x10) }
         ensures { Refuses (view self) address value result }
@@ -110,34 +119,37 @@ impl Device {
         }
     }
 
+    #[tactic(auto, using(crate::proofs::Answering::is_stored_lem, crate::proofs::Answering::is_port, crate::proofs::Answering::is_nowhere, crate::proofs::Refusing::write_id, crate::proofs::Refusing::write_shown, crate::proofs::Refusing::write_nowhere))]
     fn may_write(self, address: u8, value: u8) -> Result<(), No>
         ensures { Refuses (view self) address value result }
     {
-        match place_of(address) {
+        let Some(place) = place_of(address) else {
+            return Err(No::NoSuchAddress);
+        };
+        match place {
             Place::Id => Err(No::ReadOnly),
             Place::Stored => self.may_write_register(address, value),
             Place::Shown => Err(No::ReadOnly),
             Place::Port => self.may_write_port(value),
-            Place::Nowhere => Err(No::NoSuchAddress),
         }
     }
 
     // ---- what a write does
 
     // An octet goes to the queue, which it may make full.
+    #[tactic(auto, using(crate::proofs::Showing::queued_length), unfolding(machine::specs::Step::queues))]
     fn queue(mut self, octet: u8) -> Device
         requires { self.tx.len < tx_room }
         ensures { Becomes (queues octet (view self)) result }
     {
-        let tx = self.tx;
-        let longer = tx.push(octet);
-        self.tx = longer;
-        if longer.len == Queue::CAPACITY {
+        self.tx = self.tx.push(octet);
+        if self.tx.len == Queue::CAPACITY {
             return self.raises(I_ALERT);
         }
         self
     }
 
+    #[tactic(auto, using(crate::proofs::Refusing::port_start_is, crate::proofs::Refusing::port_room), unfolding(machine::specs::Step::port_written, line::specs::Frame::joined))]
     fn port_written(self, octet: u8, frame: &mut [u8; FRAME_ROOM]) -> Outcome
         requires { Asks self × Refuses (view self) fifos octet (Ok tt) }
         ensures { Does (port_written octet (view self)) frame.old result frame.new }
@@ -148,8 +160,9 @@ impl Device {
         self.queue(octet).done(0)
     }
 
+    #[tactic(auto, unfolding(machine::specs::Step::control0_written, line::specs::Frame::joined))]
     fn control0_written(self, value: u8, frame: &mut [u8; FRAME_ROOM]) -> Outcome
-        requires { Octets (queued self.tx) × (has TX_START value ≡ true → has TX_FLUSH value ≡ false) }
+        requires { has TX_START value ≡ true → has TX_FLUSH value ≡ false }
         ensures { Does (control0_written value (view self)) frame.old result frame.new }
     {
         if has(TX_START, value) {
@@ -161,16 +174,17 @@ impl Device {
         self.done(0)
     }
 
+    #[tactic(auto, unfolding(machine::specs::Step::control1_written))]
     fn control1_written(mut self, value: u8) -> Outcome
         ensures { DoesQuietly (control1_written value (view self)) result }
     {
         if has(RX_FLUSH, value) {
             self.rx = Fifo::empty();
-            return self.done(0);
         }
         self.done(0)
     }
 
+    #[tactic(auto, using(crate::proofs::Sending::fits_reset), unfolding(machine::specs::Step::control3_written, machine::specs::Requests::send_hard_reset, line::specs::Frame::joined))]
     fn control3_written(self, value: u8, frame: &mut [u8; FRAME_ROOM]) -> Outcome
         ensures { Does (control3_written value (view self)) frame.old result frame.new }
     {
@@ -182,6 +196,7 @@ impl Device {
     }
 
     // Both FIFOs empty, no request, and the status cleared.
+    #[tactic(auto, unfolding(machine::specs::Step::pd_reset))]
     fn pd_reset(self) -> Device
         ensures { Becomes (pd_reset (view self)) result }
     {
@@ -191,16 +206,17 @@ impl Device {
         cleared
     }
 
-    // As after power-up, but the voltages are what they are.
+    // As after power-up, but the voltages are what they are. No literal with `..`: Rattle refuses it for a struct with a ghost field.
+    #[tactic(auto, unfolding(machine::specs::Step::restored))]
     fn restored(self) -> Device
         ensures { Becomes (restored (view self)) result }
     {
-        let pins = self.pins;
         let mut new = Device::power_up();
-        new.pins = pins;
+        new.pins = self.pins;
         new
     }
 
+    #[tactic(auto, unfolding(machine::specs::Step::reset_written))]
     fn reset_written(self, value: u8) -> Outcome
         ensures { DoesQuietly (reset_written value (view self)) result }
     {
@@ -213,6 +229,7 @@ impl Device {
         self.done(0)
     }
 
+    #[tactic(auto, using(crate::proofs::Refusing::taken_stored, crate::proofs::Refusing::no_flush, machine::proofs::Comparing::port_written_lem, crate::proofs::Writing::is_control0, crate::proofs::Writing::is_control1, crate::proofs::Writing::is_control3, crate::proofs::Writing::is_reset, crate::proofs::Writing::is_plain), unfolding(machine::specs::Registers::stored, line::specs::Frame::joined))]
     fn write_taken(mut self, address: u8, value: u8, frame: &mut [u8; FRAME_ROOM]) -> Outcome
         requires { Asks self × Refuses (view self) address value (Ok tt) }
         ensures { Does (written address value (view self)) frame.old result frame.new }
@@ -221,10 +238,7 @@ impl Device {
             return self.port_written(value, frame);
         }
         let before = self.readings();
-        let at = (address - 2) as usize;
-        let mut cells = self.cells;
-        cells[at] = value & stored_bits(address);
-        self.cells = cells;
+        self.cells[(address - 2) as usize] = value & stored_bits(address);
         match address {
             0x06 => self.control0_written(value, frame),
             0x07 => self.control1_written(value),
@@ -235,6 +249,7 @@ impl Device {
     }
 
     // Writes a register or the port.
+    #[tactic(auto, using(crate::proofs::Writing::write_small, crate::proofs::Writing::write_refused))]
     pub fn write(mut self, address: u8, value: u8, symbols: &mut [u8]) -> Outcome
         requires { Asks self }
         ensures { Serves (write (length symbols.old) address value) self symbols.old result symbols.new }

@@ -38,29 +38,6 @@ pub agree_other : (x y : ℕ) (xs ys : List ℕ) → (x ≡ y → ⊥) → agree
 unfolding agree
 agree_other x y xs ys e = simp (ne_eqb x y e)
 
--- all of a set agrees exactly where all of it is in common
-pub all_common : (s l : List ℕ) → agree s l ≡ length s → common s l ≡ length s
-unfolding agree common
-all_common [] l e = refl
-all_common (x ∷ xs) [] e = e
-all_common (x ∷ xs) (y ∷ ys) e = go (eqb x y) e (agree_most xs ys) (all_common xs ys)
-  where
-    go : (b : Bool) → cond b (suc (agree xs ys)) (agree xs ys) ≡ suc (length xs) → agree xs ys ≤ length xs
-        → (agree xs ys ≡ length xs → common xs ys ≡ length xs) → cond b (suc (common xs ys)) 0 ≡ suc (length xs)
-    go true e h ih = ap suc (ih (omega arith))
-    go false e h ih = absurd (omega arith)
-
-pub common_all : (s l : List ℕ) → common s l ≡ length s → agree s l ≡ length s
-unfolding agree common
-common_all [] l e = refl
-common_all (x ∷ xs) [] e = e
-common_all (x ∷ xs) (y ∷ ys) e = go (eqb x y) e (common_all xs ys)
-  where
-    go : (b : Bool) → cond b (suc (common xs ys)) 0 ≡ suc (length xs) → (common xs ys ≡ length xs → agree xs ys ≡ length xs)
-        → cond b (suc (agree xs ys)) (agree xs ys) ≡ suc (length xs)
-    go true e ih = ap suc (ih (omega arith))
-    go false e ih = absurd (omega arith)
-
 pub all_agree : (s l : List ℕ) → length s ≤ length l → ((i : ℕ) → i < length s → get_or l i 0 ≡ get_or s i 0) → agree s l ≡ length s
 unfolding agree
 all_agree [] l h f = refl

@@ -1,25 +1,23 @@
 -- How the code looks for a set: place after place, and kind after kind.
 -- Assumes nothing.
 use mathlib.Core.Path.{◌≡◌, refl, sym, ap, ap₂, ◌∙◌}
-use mathlib.Core.Bool.{Bool, true, false, cond}
+use mathlib.Core.Bool.{Bool, true, false, cond, ◌&&◌}
 use mathlib.Core.List.{List, [], ◌∷◌, map}
 use mathlib.Core.Option.{Option, none, some}
 use Prim.Native.Nat.{ℕ, suc, ◌<◌, ◌≤◌}
-use native.Mathlib.Decide.{ℕ_discrete}
 use native.Mathlib.Omega.{arith}
-use borrow.Author.Tests.{eq-eqb, ne_eqb, lt-ltb, le-ltb}
-use lib.Dec.{eqb}
+use borrow.Author.Tests.{lt-ltb, le-ltb}
+use lib.Dec.{eqb, eqb-zero-suc, eqb-suc-suc}
 use lib.ListN.{length}
 use Rattle.std.specs.Prelude.{filter, find}
 use Rattle.std.specs.Prelude.{Option as Maybe, Some, None}
-use Rattle.std.specs.List.{zip}
+use Rattle.std.specs.List.{zip, starts_with}
 use Rattle.line.specs.declared.kind.Kind.{Kind}
 use Rattle.line.specs.Numbered.{kind_number}
 use Rattle.line.specs.Kind.{set_of, common, kind_from}
 use Rattle.line.specs.Read.{found, short, misfit, agree, agreeing, single, taken_or, set_at}
 use Rattle.line.proofs.Numbers.{in_order, kind_below}
 use Rattle.line.proofs.Starts.{set_length}
-use Rattle.line.proofs.Agreeing.{all_common, common_all}
 
 -- ---- in how many places a set and a record agree
 
@@ -34,7 +32,10 @@ counted (x ∷ xs) (y ∷ ys) = go (eqb x y) (filter (λ (p : ℕ × ℕ). eqb p
     go true more e = ap suc e
     go false more e = e
 
--- ---- the kinds whose sets agree with a record in n places
+-- ---- the kinds whose sets a record begins with, and those that agree with it in three places
+
+abbrev pub begins : List ℕ → Kind → Bool
+begins l k = starts_with eqb l (set_of (kind_number k))
 
 abbrev pub in_places : ℕ → List ℕ → Kind → Bool
 in_places n l k = eqb (agree (set_of (kind_number k)) l) n
@@ -51,22 +52,29 @@ number_of : Maybe Kind → Option ℕ
 number_of None = none
 number_of (Some k) = some (kind_number k)
 
-same_four : (k : Kind) (l : List ℕ) → eqb (common (set_of (kind_number k)) l) 4 ≡ eqb (agree (set_of (kind_number k)) l) 4
-same_four k l =
-    let s = set_of (kind_number k) in
-    let n : length s ≡ 4 = set_length (kind_number k) (kind_below k) in
-    elim (ℕ_discrete (agree s l) 4) [
-      | yes e ↦ eq-eqb (common s l) 4 (all_common s l (e ∙ sym n) ∙ n) ∙ sym (eq-eqb (agree s l) 4 e)
-      | no e ↦ ne_eqb (common s l) 4 (λ c. e (common_all s l (c ∙ sym n) ∙ n)) ∙ sym (ne_eqb (agree s l) 4 e)
-    ]
+starts_in_common : (s l : List ℕ) → starts_with eqb l s ≡ eqb (common s l) (length s)
+unfolding common
+starts_in_common [] l = refl
+starts_in_common (x ∷ xs) [] = sym (eqb-zero-suc (length xs))
+starts_in_common (x ∷ xs) (y ∷ ys) = go (eqb x y) (starts_in_common xs ys)
+  where
+    go : (b : Bool) → starts_with eqb ys xs ≡ eqb (common xs ys) (length xs)
+        → (b && starts_with eqb ys xs) ≡ eqb (cond b (suc (common xs ys)) 0) (suc (length xs))
+    go true e = e ∙ sym (eqb-suc-suc (common xs ys) (length xs))
+    go false e = sym (eqb-zero-suc (length xs))
 
-first_exact : (n : ℕ) (ks : List Kind) (l : List ℕ) → Numbered n ks → kind_from n (sets_of ks) l ≡ number_of (find (in_places 4 l) ks)
+begins_four : (k : Kind) (l : List ℕ) → eqb (common (set_of (kind_number k)) l) 4 ≡ begins l k
+begins_four k l =
+    let s = set_of (kind_number k) in
+    ap (eqb (common s l)) (sym (set_length (kind_number k) (kind_below k))) ∙ sym (starts_in_common s l)
+
+first_exact : (n : ℕ) (ks : List Kind) (l : List ℕ) → Numbered n ks → kind_from n (sets_of ks) l ≡ number_of (find (begins l) ks)
 unfolding kind_from number_of
 first_exact n [] l h = refl
-first_exact n (k ∷ ks) l h = rw (same_four k l) (go (in_places 4 l k) (first_exact (suc n) ks l h.1))
+first_exact n (k ∷ ks) l h = rw (begins_four k l) (go (begins l k) (first_exact (suc n) ks l h.1))
   where
-    go : (b : Bool) → kind_from (suc n) (sets_of ks) l ≡ number_of (find (in_places 4 l) ks)
-        → cond b (some n) (kind_from (suc n) (sets_of ks) l) ≡ number_of (cond b (Some k) (find (in_places 4 l) ks))
+    go : (b : Bool) → kind_from (suc n) (sets_of ks) l ≡ number_of (find (begins l) ks)
+        → cond b (some n) (kind_from (suc n) (sets_of ks) l) ≡ number_of (cond b (Some k) (find (begins l) ks))
     go true e = ap some (sym h.0)
     go false e = e
 
@@ -89,17 +97,17 @@ unfolding set_at
 few_symbols l h = simp (lt-ltb (length l) 4 h)
 
 module _ (l : List ℕ) (long : 4 ≤ length l) where
-  by_kinds : set_at l ≡ taken_or (number_of (find (in_places 4 l) in_order)) (map kind_number (filter (in_places 3 l) in_order))
+  by_kinds : set_at l ≡ taken_or (number_of (find (begins l) in_order)) (map kind_number (filter (in_places 3 l) in_order))
   unfolding set_at set_of
   by_kinds =
       let h : Numbered 0 in_order = (refl, (refl, (refl, (refl, (refl, (refl, tt)))))) in
       simp (le-ltb (length l) 4 long) (ap₂ taken_or (first_exact 0 in_order l h) (all_near 0 in_order l h))
 
-  pub is_exact : (k : Kind) → find (in_places 4 l) in_order ≡ Some k → set_at l ≡ found (record { kind = kind_number k; exact = true })
+  pub is_exact : (k : Kind) → find (begins l) in_order ≡ Some k → set_at l ≡ found (record { kind = kind_number k; exact = true })
   unfolding taken_or number_of
   is_exact k e = by_kinds ∙ ap (λ (o : Maybe Kind). taken_or (number_of o) (map kind_number (filter (in_places 3 l) in_order))) e
 
-  module _ (other : find (in_places 4 l) in_order ≡ None) where
+  module _ (other : find (begins l) in_order ≡ None) where
     by_near : set_at l ≡ single (map kind_number (filter (in_places 3 l) in_order))
     unfolding taken_or number_of
     by_near = by_kinds ∙ ap (λ (o : Maybe Kind). taken_or (number_of o) (map kind_number (filter (in_places 3 l) in_order))) other

@@ -5,7 +5,7 @@ use mathlib.Core.Bool.{Bool, true, false, cond}
 use mathlib.Core.List.{List, [], ◌∷◌, ◌++◌, append-nil}
 use Prim.Native.Nat.{ℕ, zero, suc, ◌+◌, ◌*◌, ◌-◌, ◌/◌, ◌<◌, ◌≤◌}
 use native.Mathlib.Omega.{arith}
-use borrow.Author.Tests.{lt-ltb, le-ltb, eq-eqb, ne_eqb}
+use borrow.Author.Tests.{le-ltb, eq-eqb, ne_eqb}
 use lib.ListN.{length, take, drop, get_or, drop_of_length-le, length-drop}
 use lib.Seq.{get_or-take, take_all, take_at, length-take-le, sets}
 use Rattle.std.specs.Prelude.{Result, Ok, Err, take_while}
@@ -95,9 +95,6 @@ module _ (array body new : List ℕ) (n : ℕ) (room : n ≤ length array) (few 
       let e : new ≡ octets_of (take (2 * n) body) = gets ∙ ap (λ (i : ℕ). octets_of (take (2 * i) body)) (length-take-le n array room) in
       take_at new (drop n array) n (ap length e ∙ length_pairs body n few) ∙ e
 
-  pub held_long : n ≡ length (take n (new ++ drop n array))
-  held_long = sym (ap length held_octets ∙ length_pairs body n few)
-
 module _ (held : List ℕ) (kind : SopKind) (m : List ℕ) (n : ℕ) (long : length m ≡ n) (held_is : held ≡ m) where
   abbrev s : Shape
   s = record { kind = sop_number kind; octets = m }
@@ -185,9 +182,6 @@ module _ (l : List ℕ) (k : ℕ) (exact : Bool) (e : set_at l ≡ found (record
   set_fits = taken_long l k exact set_taken
 
 -- ---- the ways out
-
-pub small : (line before : List ℕ) (at : ℕ) → length before < octet_room → Reads line at before (Err SmallBuffer) before
-small line before at h = record { says = simp (lt-ltb (length before) octet_room h); leaves = simp (lt-ltb (length before) octet_room h) }
 
 module _ (line before part : List ℕ) (at : ℕ) (room : octet_room ≤ length before) (is : part ≡ drop at line) where
   by : (r : Result FoundFrame ReadError) (after : List ℕ) → Tells at (first part) before r after → Reads line at before r after

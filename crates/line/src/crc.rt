@@ -4,6 +4,7 @@ ghost use Rattle.line.specs.Crc.{crc_bit, crc_octet, IsCrc, SaysCrcRight};
 
 const POLYNOMIAL: u32 = 0xEDB8_8320;
 
+#[tactic(auto, using(crate::proofs::Register::even, crate::proofs::Register::odd))]
 fn bit(c: u32) -> u32
     ensures { result ≡ crc_bit c }
 {
@@ -14,6 +15,7 @@ fn bit(c: u32) -> u32
     }
 }
 
+#[tactic(auto, using(crate::proofs::Register::turn, crate::proofs::Register::eighth), unfolding(crate::specs::Crc::crc_bits))]
 fn octet(c: u32, b: u8) -> u32
     ensures { result ≡ crc_octet c b }
 {
@@ -32,6 +34,7 @@ pub fn crc(octets: &[u8]) -> u32
 }
 
 // Whether the last four octets are the CRC of the others, the least significant first; fewer than four have none.
+#[tactic(auto, using(crate::proofs::Crcs::crc_few, crate::proofs::Crcs::crc_is))]
 pub fn right(octets: &[u8]) -> bool
     ensures { SaysCrcRight octets.now result }
 {

@@ -17,6 +17,7 @@ pub struct Cursor {
 }
 
 // A frame that was read: its kind, whether its set was exact (02, A4), the number of its octets with CRC and the place after it.
+// A count, since `Reads` speaks of the lent octets, whole.
 #[derive(Clone, Copy, Debug, PartialEq, Eq)]
 pub struct FoundFrame {
     pub kind: Kind,
@@ -37,7 +38,8 @@ pub enum ReadError {
 // What the reader answers.
 pub type Answer = Result<FoundFrame, ReadError>;
 
-const OCTET_ROOM: usize = 34;
+// The most octets of a frame, CRC included (01, 'Line reader').
+pub const OCTET_ROOM: usize = 34;
 
 // The symbols of a record from a cursor on: a part of the caller's own, none where the cursor is past the end.
 pub fn rest<'a>(line: &'a [u8], cursor: Cursor) -> &'a [u8]
@@ -50,10 +52,9 @@ pub fn rest<'a>(line: &'a [u8], cursor: Cursor) -> &'a [u8]
 fn nibbles(body: &[u8]) -> usize
     ensures { result ≡ nibble_run 68 body.now }
 {
-    body.iter()
-        .take(68)
-        .take_while(|symbol| is_nibble(**symbol))
-        .count()
+    // A part and no `take(68)`, behind which `frames` takes a quarter longer: 0.24 s of 10 MB where it takes 0.19 s.
+    let most = &body[..body.len().min(68)];
+    most.iter().take_while(|symbol| is_nibble(**symbol)).count()
 }
 
 // Whether a symbol ends a message of so many nibbles.
@@ -77,7 +78,7 @@ fn get_octets(body: &[u8], octets: &mut [u8])
     requires { 2 * length octets.old ≤ nibble_run 68 body.now }
     ensures { octets.new ≡ octets_of (take (2 * length octets.old) body.now) }
 {
-    // The pairs by their place: behind `octets.iter_mut().zip(..)` a proof knows how many octets are lent, and none that is written.
+    // The pairs by their place: std says nothing of what the octets lent by `iter_mut` behind `zip` end as, and a recursion that splits them off is longer.
     for (i, o) in octets.iter_mut().enumerate() {
         *o = octet(body[2 * i], body[2 * i + 1]);
     }
@@ -111,6 +112,7 @@ fn read_octets(
 }
 
 // What follows the set of an SOP kind.
+#[tactic(auto, using(crate::proofs::Reading::body_within, crate::proofs::Reading::body_most, crate::proofs::Reading::ending, crate::proofs::Reading::pairs))]
 fn read_message(set: Start<SopKind>, body: &[u8], at: usize, octets: &mut [u8]) -> Answer
     requires { (octet_room ≤ length octets.old) × (at + (4 + length body.now) < 2 ^ 64) }
     ensures { Tells at (first_of set.exact (with_set (sop_number set.kind) (body_at body.now))) octets.old result octets.new }
@@ -126,6 +128,7 @@ fn read_message(set: Start<SopKind>, body: &[u8], at: usize, octets: &mut [u8]) 
 }
 
 // The frame that stands at the cursor. Its octets with CRC go to the lent ones; a refusal writes nothing.
+#[tactic(auto, using(crate::proofs::Reading::set_fits))]
 pub fn read_frame(line: &[u8], cursor: Cursor, octets: &mut [u8]) -> Answer
     ensures { Reads line.now cursor.at octets.old result octets.new }
 {
@@ -157,6 +160,7 @@ pub struct FirstRead<'a> {
 }
 
 // The record behind an answer's frame, and all of it where there is none.
+#[tactic(auto, using(crate::proofs::Tails::all_left), unfolding(crate::specs::Reader::behind))]
 fn tail<'a>(line: &'a [u8], answer: Answer) -> &'a [u8]
     ensures { IsTail line.entry (behind 0 (said answer)) result }
 {

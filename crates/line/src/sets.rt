@@ -64,7 +64,11 @@ pub(crate) fn set_at(line: &[u8]) -> Result<Start<Kind>, ReadError>
     if line.len() < 4 {
         return Err(ReadError::TooShort(line.len()));
     }
-    if let Some(kind) = KINDS.iter().copied().find(|kind| agree(*kind, line) == 4) {
+    let exact = KINDS
+        .iter()
+        .copied()
+        .find(|kind| line.starts_with(&set_of(*kind)));
+    if let Some(kind) = exact {
         return Ok(Start { kind, exact: true });
     }
     let mut near = KINDS.iter().copied().filter(|kind| agree(*kind, line) == 3);

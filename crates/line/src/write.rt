@@ -27,14 +27,15 @@ impl From<UnknownKind> for WriteError {
     }
 }
 
-const FRAME_ROOM: usize = 73;
+// The symbols of the longest frame: 4 of the set, 68 of 34 octets, EOP (01, 'Line code (PD)').
+pub const FRAME_ROOM: usize = 73;
 
 // Each octet as two symbols, low nibble first, from `at` on.
 fn put_octets(octets: &[u8], symbols: &mut [u8], at: usize)
     requires { at + 2 * length octets.now ≤ length symbols.old }
     ensures { symbols.new ≡ sets symbols.old at (encoded octets.now) }
 {
-    // By the place: behind `chunks_exact_mut(2).zip(octets)` a proof knows how many symbols are lent, and none that is written.
+    // By the place: std says nothing of what pairs lent by `as_chunks_mut` or `chunks_exact_mut` end as, and a recursion that splits them off is longer.
     for (i, b) in octets.iter().enumerate() {
         symbols[at + 2 * i] = symbol(*b & 15);
         symbols[at + 2 * i + 1] = symbol(*b >> 4);
@@ -55,7 +56,7 @@ fn put_message(kind: SopKind, octets: &[u8], symbols: &mut [u8]) -> usize
     end + 1
 }
 
-// Writes the frame of a kind, by its number, and its octets to the beginning of `symbols`, and no more; how many symbols. Any number is answered.
+// Writes the frame of a kind, by its number, and its octets to the beginning of `symbols`, and no more; how many symbols. Any number is answered (`Writes`).
 pub fn write_frame(kind: u8, octets: &[u8], symbols: &mut [u8]) -> Result<usize, WriteError>
     ensures { Writes (record { kind = kind; octets = octets.now }) symbols.old result symbols.new }
 {

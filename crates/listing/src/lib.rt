@@ -1,7 +1,8 @@
 // What is on a line: the text of a record, character by character, to a line of text for each frame in it.
 #![tactic(auto)]
 
-use line::read::{Cursor, ReadError, read_frame};
+use line::read::{Cursor, OCTET_ROOM, ReadError, read_frame};
+use line::write::FRAME_ROOM;
 use text::Page;
 
 mod form;
@@ -9,7 +10,7 @@ mod print;
 
 ghost use Rattle.std.specs.Prelude.{◌≡◌, true, Some, ◌+◌, ◌≤◌, ◌<◌, ◌^◌, length};
 ghost use Rattle.text.specs.Put.{has_room};
-ghost use Rattle.text.specs.Page.{PutsOn};
+ghost use Rattle.text.specs.Page.{PutsOn, SameOctets};
 ghost use Rattle.listing.specs.Lines.{frame_line_room};
 ghost use Rattle.listing.specs.declared.form.Scan.TheVariants.{Symbol};
 ghost use Rattle.listing.specs.Steps.{end_text};
@@ -20,9 +21,6 @@ use crate::print::{put_bad, put_frame, put_no};
 
 // Room for any line: a place, a space, the kind and its mark, 34 octets, LF.
 pub const FRAME_LINE_ROOM: usize = 126;
-
-// The longest frame.
-const WINDOW_ROOM: usize = 73;
 
 // What is held of an input: its form so far, the place of the symbols that no frame has yet, and how many these are. They stand at the beginning of the window.
 // The window is lent and its count stands here: `Feeds` and `ListsByCalls` promise for whatever window is lent.
@@ -45,15 +43,20 @@ pub fn begin() -> Listing
 }
 
 // A symbol: with those before it a frame, too few for one, or no frame.
-fn symbol(listing: Listing, v: u8, window: &mut [u8; 73], page: &mut Page) -> Option<Listing>
+fn symbol(
+    listing: Listing,
+    v: u8,
+    window: &mut [u8; FRAME_ROOM],
+    page: &mut Page,
+) -> Option<Listing>
     requires { Bounded listing × (has_room frame_line_room page.old.octets.now page.old.at ≡ true) }
-    ensures same_octets { page.new.octets.ghost_name ≡ page.old.octets.ghost_name }
+    ensures same_octets { SameOctets page.old page.new }
     ensures goes { Goes listing (Some (Symbol v)) window.old page.old.octets.now page.old.at (fed_as listing result page.new.at) window.new page.new.octets.now }
 {
     let place = listing.before;
     let n = listing.count;
     window[n] = v;
-    let mut octets = [0u8; 34];
+    let mut octets = [0u8; OCTET_ROOM];
     match read_frame(&window[..n + 1], Cursor { at: 0 }, &mut octets) {
         Ok(found) => {
             let octets = &octets[..found.count];
@@ -82,9 +85,14 @@ fn symbol(listing: Listing, v: u8, window: &mut [u8; 73], page: &mut Page) -> Op
 }
 
 // By what the text ends with now.
-fn go(listing: Listing, to: Option<Scan>, window: &mut [u8; 73], page: &mut Page) -> Option<Listing>
+fn go(
+    listing: Listing,
+    to: Option<Scan>,
+    window: &mut [u8; FRAME_ROOM],
+    page: &mut Page,
+) -> Option<Listing>
     requires { Bounded listing × (has_room frame_line_room page.old.octets.now page.old.at ≡ true) }
-    ensures same_octets { page.new.octets.ghost_name ≡ page.old.octets.ghost_name }
+    ensures same_octets { SameOctets page.old page.new }
     ensures goes { Goes listing to window.old page.old.octets.now page.old.at (fed_as listing result page.new.at) window.new page.new.octets.now }
 {
     match to {
@@ -103,7 +111,7 @@ fn go(listing: Listing, to: Option<Scan>, window: &mut [u8; 73], page: &mut Page
 fn in_bounds(listing: Listing) -> bool
     ensures { result ≡ in_bounds listing }
 {
-    listing.count < WINDOW_ROOM && listing.before < usize::MAX - listing.count
+    listing.count < FRAME_ROOM && listing.before < usize::MAX - listing.count
 }
 
 // Whether the page has room for any line, and the listing is in bounds.
@@ -116,8 +124,13 @@ fn may_print(listing: Listing, page: &Page) -> bool
 // Takes a character: the listing that goes on, or none where it ends. Where a line of text need not fit on the page, or 64 bits do not
 // count its symbols, it takes none and ends.
 #[tactic(auto, unfolding(crate::specs::Promises::TakesCharacter))]
-pub fn feed(listing: Listing, c: u8, window: &mut [u8; 73], page: &mut Page) -> Option<Listing>
-    ensures same_octets { page.new.octets.ghost_name ≡ page.old.octets.ghost_name }
+pub fn feed(
+    listing: Listing,
+    c: u8,
+    window: &mut [u8; FRAME_ROOM],
+    page: &mut Page,
+) -> Option<Listing>
+    ensures same_octets { SameOctets page.old page.new }
     ensures feeds { Feeds listing c window.old page.old.octets.now page.old.at (fed_as listing result page.new.at) window.new page.new.octets.now }
 {
     if may_print(listing, page) {
@@ -141,7 +154,7 @@ fn put_end(listing: Listing, page: &mut Page)
 
 // The input ends: prints what is then said, or nothing where `feed` would take nothing.
 pub fn finish(listing: Listing, page: &mut Page)
-    ensures same_octets { page.new.octets.ghost_name ≡ page.old.octets.ghost_name }
+    ensures same_octets { SameOctets page.old page.new }
     ensures finishes { Finishes listing page.old.octets.now page.old.at page.new.at page.new.octets.now }
 {
     if may_print(listing, page) {

@@ -1,14 +1,11 @@
 -- An answer names the place that a step leads to.
 -- Assumes nothing.
-use mathlib.Core.Path.{◌≡◌, refl, sym}
-use mathlib.Core.List.{List}
+use mathlib.Core.Path.{◌≡◌, refl}
 use Prim.Native.Nat.{ℕ}
-use Rattle.std.specs.Prelude.{Result, Ok, Err}
-use Rattle.line.specs.declared.read.FoundFrame.{FoundFrame}
+use Rattle.std.specs.Prelude.{Err}
 use Rattle.line.specs.declared.read.ReadError.{ReadError}
 use Rattle.line.specs.declared.read.ReadError.TheVariants.{SmallBuffer, NoFrame, TooShort, WrongCrc}
-use Rattle.line.specs.Reader.{said, behind, Reads}
-use Rattle.reader.specs.Step.{Steps}
+use Rattle.line.specs.Reader.{said, behind}
 
 -- behind a frame, and the same place where there is none
 pub stays : (at : ℕ) (e : ReadError) → at ≡ behind at (said (Err e))

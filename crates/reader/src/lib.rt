@@ -33,6 +33,7 @@ impl<'a> Reader<'a> {
     }
 
     // The frame at the reader's place; the reader moves behind it, and stays where there is none.
+    #[tactic(auto, using(crate::proofs::Steps::stays), unfolding(line::specs::Reader::behind))]
     pub fn next(&mut self, octets: &mut [u8]) -> Answer
         ensures { Nexts self.old octets.old result octets.new self.new }
     {

@@ -6,7 +6,8 @@ ghost use Rattle.script.specs.Parse.{count_of, timed, packet_of, millivolts_of, 
 
 use text::hex::{is_hex, octet_of};
 
-// What a line says; a packet's octets stand beside it, at the beginning of those lent. A packet's kind is the number that stands there, since any is in form (`Parses`).
+// What a line says. A packet's kind is the number that stands there, since any is in form (`Parses`); its octets are so many at the
+// beginning of those lent, which `Parses` says of the lent ones, whole.
 #[derive(Clone, Copy)]
 pub enum Line {
     Write(u8, u8),
@@ -16,6 +17,9 @@ pub enum Line {
     Packet { kind: u32, count: usize },
     Sense(u16, u16, u16),
 }
+
+// A line of the longest form has room for so many octets of a packet.
+pub const PACKET_ROOM: usize = 84;
 
 // The octet that the two characters from `i` on write.
 #[tactic(auto, unfolding(crate::specs::Text::octet_at))]
@@ -92,7 +96,7 @@ fn store_octets(s: &[u8], octets: &mut [u8]) -> usize
     ensures { (result ≡ length (octets_in s.now)) × (octets.new ≡ sets octets.old 0 (octets_in s.now)) }
 {
     let (groups, _) = s.as_chunks::<3>();
-    // By the place: behind `octets.iter_mut().zip(groups)` a proof knows how many octets are lent, and none that is written.
+    // By the place: std says nothing of what the octets lent by `iter_mut` behind `zip` end as, and a recursion that splits them off is longer.
     for (n, g) in groups.iter().enumerate() {
         octets[n] = octet_of(g[1], g[2]);
     }
@@ -108,7 +112,7 @@ fn time(s: &[u8]) -> Option<Line>
 }
 
 // What follows `p `: the kind, and its octets.
-fn packet(s: &[u8], octets: &mut [u8; 84]) -> Option<Line>
+fn packet(s: &[u8], octets: &mut [u8; PACKET_ROOM]) -> Option<Line>
     requires { length s.now ≤ 253 }
     ensures { Parses (packet_of s.now) octets.old result octets.new }
 {
@@ -157,7 +161,7 @@ fn voltages(s: &[u8]) -> Option<Line>
 
 // What a line says that begins with a letter and a space, by the letter.
 #[tactic(auto, unfolding(crate::specs::Parse::lettered_of))]
-fn lettered(line: &[u8], octets: &mut [u8; 84]) -> Option<Line>
+fn lettered(line: &[u8], octets: &mut [u8; PACKET_ROOM]) -> Option<Line>
     requires { length line.now ≤ 255 }
     ensures { Parses (lettered_of line.now) octets.old result octets.new }
 {
@@ -176,7 +180,7 @@ fn lettered(line: &[u8], octets: &mut [u8; 84]) -> Option<Line>
 
 // What a line of at most 255 characters says, by its form.
 #[tactic(auto, using(crate::proofs::Masks::fits_length), unfolding(crate::specs::Parse::form_of))]
-fn form(line: &[u8], octets: &mut [u8; 84]) -> Option<Line>
+fn form(line: &[u8], octets: &mut [u8; PACKET_ROOM]) -> Option<Line>
     requires { length line.now ≤ 255 }
     ensures { Parses (form_of line.now) octets.old result octets.new }
 {
@@ -194,7 +198,7 @@ fn form(line: &[u8], octets: &mut [u8; 84]) -> Option<Line>
 
 // A line of the events. 255 characters hold at most 84 octets.
 #[tactic(auto, unfolding(crate::specs::Parse::event_of))]
-pub fn parse_event(line: &[u8], octets: &mut [u8; 84]) -> Option<Line>
+pub fn parse_event(line: &[u8], octets: &mut [u8; PACKET_ROOM]) -> Option<Line>
     ensures { Parses (event_of line.now) octets.old result octets.new }
 {
     if line.len() > 255 {

@@ -2,13 +2,14 @@
 // No `Display`: `PrintsOutcome`, `PrintsBad` and `PrintsWhy` promise the whole line where there is room, and else none of it (text/src/page.rt).
 // Room is a clause and no type: a text takes of it, so that it holds where a function begins and not where it ends.
 ghost use Rattle.std.specs.Prelude.{◌≡◌, ◌+◌, ◌≤◌, length};
-ghost use Rattle.text.specs.Page.{PutsOn, PrintsOn};
+ghost use Rattle.text.specs.Page.{PutsOn, PrintsOn, SameOctets};
 ghost use Rattle.line.specs.Write.{frame_room};
 ghost use Rattle.fusb302.specs.Serves.{replied};
 ghost use Rattle.fusb302.specs.Why.{reason_of};
 ghost use Rattle.script.specs.Print.{reply_text, level_of, outcome_text, bad_line_text, reason_text, why_text, bench_line_room, PrintsOutcome, PrintsBad, PrintsWhy};
 
 use fusb302::{Reply, Why};
+use line::write::FRAME_ROOM;
 use text::Page;
 
 // Room for any line: `no255`, a space and the level, 73 symbols, LF.
@@ -16,9 +17,6 @@ pub const BENCH_LINE_ROOM: usize = 227;
 
 // As many digits as any line number has.
 const LINE_DIGITS: usize = 10;
-
-// The most symbols that an event sends (01, 'Numbers of no', 12).
-const FRAME_ROOM: usize = 73;
 
 // `ok`, `=vv`, `noN`.
 fn put_reply(reply: Reply, page: &mut Page)
@@ -96,7 +94,7 @@ fn put_why(number: u32, why: Why, page: &mut Page)
 
 // Prints what came of a write or an event; nothing without room, nor with more symbols than any event sends.
 pub fn print_outcome(reply: Reply, high: bool, symbols: &[u8], page: &mut Page)
-    ensures same_octets { page.new.octets.ghost_name ≡ page.old.octets.ghost_name }
+    ensures same_octets { SameOctets page.old page.new }
     ensures prints { PrintsOutcome (replied reply) high symbols.now page.old.octets.now page.old.at page.new.at page.new.octets.now }
 {
     if symbols.len() <= FRAME_ROOM && page.has_room(BENCH_LINE_ROOM) {
@@ -106,7 +104,7 @@ pub fn print_outcome(reply: Reply, high: bool, symbols: &[u8], page: &mut Page)
 
 // Prints that a line is out of form or missing; without room nothing.
 pub fn print_bad(line: u32, page: &mut Page)
-    ensures same_octets { page.new.octets.ghost_name ≡ page.old.octets.ghost_name }
+    ensures same_octets { SameOctets page.old page.new }
     ensures prints { PrintsBad line page.old.octets.now page.old.at page.new.at page.new.octets.now }
 {
     if page.has_room(BENCH_LINE_ROOM) {
@@ -116,7 +114,7 @@ pub fn print_bad(line: u32, page: &mut Page)
 
 // Prints why the packet of a line gets no GoodCRC, or that one leaves; without room nothing.
 pub fn print_why(line: u32, why: Why, page: &mut Page)
-    ensures same_octets { page.new.octets.ghost_name ≡ page.old.octets.ghost_name }
+    ensures same_octets { SameOctets page.old page.new }
     ensures prints { PrintsWhy line (reason_of why) page.old.octets.now page.old.at page.new.at page.new.octets.now }
 {
     if page.has_room(BENCH_LINE_ROOM) {

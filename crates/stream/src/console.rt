@@ -9,6 +9,7 @@ ghost use Rattle.stream.specs.Promises.{BeginsFresh, WritesOut, MakesRoom, Fills
 use crate::{Input, Stream};
 use std::io::{Stdin, Stdout};
 
+// The buffers are arrays with their ends in `stream`, since no crate here has a heap; `Ready` says that these lie in them.
 #[derive(Drop)]
 pub struct Console {
     stdin: Stdin,

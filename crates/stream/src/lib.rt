@@ -48,6 +48,7 @@ pub struct Stream {
     pub on: bool,
 }
 
+// Handles and buffers are lent one by one: `WritesOut`, `MakesRoom` and `Fills` promise for whatever slice is lent, and `Console` holds its own.
 impl Stream {
     pub fn begin() -> Stream
         ensures { BeginsFresh result }

@@ -20,7 +20,7 @@ pub fn is_hex(c: u8) -> bool
     hex_value(c).is_some()
 }
 
-// The octet that two characters write; what is no digit counts as 0.
+// The octet that two characters write; what is no digit counts as 0, since any two are answered (`MakesOctet`).
 #[tactic(auto, unfolding(crate::specs::Hex::octet_of))]
 pub fn octet_of(a: u8, b: u8) -> u8
     ensures { MakesOctet a b result }

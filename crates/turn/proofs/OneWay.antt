@@ -3,7 +3,7 @@
 use mathlib.Core.Path.{◌≡◌, sym, ap, ◌∙◌}
 use mathlib.Core.Bool.{true, false}
 use Rattle.fusb302.specs.View.{view}
-use Rattle.turn.specs.Turn.{Telling, outcomes, reasons, Turned, Lent, TakesLineTelling}
+use Rattle.turn.specs.Turn.{outcomes, Turned, Lent, TakesLineTelling}
 use Rattle.turn.specs.Theorems.{OneTurn, OneTelling}
 
 pub one_telling : OneTelling

@@ -35,7 +35,7 @@ use Rattle.script.specs.Text.{fits, octet_at, are_octets, octets_in}
 use Rattle.script.specs.Parse.{count_of, write_event, timed, rest_part, number_part, heard, packet_of, millivolts_of, is_spaced, next_part, sensed, voltages_of, lettered_of, form_of, event_of, setup_of, line_of, Parses}
 use Rattle.script.specs.Print.{outcome_text, bad_line_text, why_text, bench_line_room, PrintsOutcome, PrintsBad}
 use Rattle.script.proofs.Texts.{short, reason_short}
-use Rattle.turn.specs.Turn.{Telling, outcomes, reasons, Turned, meant_by, left_by, sent_by, result_text, reason_text_of, text_of, told_text, TakesLineTelling, Lent, event_for, heard_of, TellsReason, TellsOutcome, ActsTelling}
+use Rattle.turn.specs.Turn.{Telling, outcomes, reasons, Turned, meant_by, left_by, sent_by, result_text, reason_text_of, text_of, told_text, TakesLineTelling, Lent, event_for, TellsReason, TellsOutcome, ActsTelling}
 
 -- ---- a line's event is lent room for one frame
 
@@ -95,27 +95,20 @@ meant_roomy setup l = either setup (setup_of l) (event_of l) (setup_roomy l) (ev
 
 -- ---- a parsed line and the octets beside it are the event
 
-back : (e : Option Event) → Roomy e → (before : List ℕ) (l : Line) (after : List ℕ) → Parses e before (Some l) after
-    → (Some (event_for l after) ≡ e) × (heard_of l ≤ length after)
+back : (e : Option Event) → Roomy e → (before : List ℕ) (l : Line) (after : List ℕ) → Parses e before (Some l) after → Some (event_for l after) ≡ e
 back None roomy before l after p = absurd (none-some l (sym p.says))
-back (Some (write n a v)) roomy before l after p = let q = same_Some l _ p.says in (rw (q, ← roomy) refl, rw q (omega arith))
-back (Some (read n a)) roomy before l after p = let q = same_Some l _ p.says in (rw (q, ← roomy) refl, rw q (omega arith))
-back (Some (pass n t)) roomy before l after p = let q = same_Some l _ p.says in (rw (q, ← roomy) refl, rw q (omega arith))
-back (Some (hard_reset n)) roomy before l after p = let q = same_Some l _ p.says in (rw (q, ← roomy) refl, rw q (omega arith))
+back (Some (write n a v)) roomy before l after p = rw (same_Some l _ p.says, ← roomy) refl
+back (Some (read n a)) roomy before l after p = rw (same_Some l _ p.says, ← roomy) refl
+back (Some (pass n t)) roomy before l after p = rw (same_Some l _ p.says, ← roomy) refl
+back (Some (hard_reset n)) roomy before l after p = rw (same_Some l _ p.says, ← roomy) refl
 back (Some (packet n k m)) roomy before l after p =
-    let q = same_Some l _ p.says in (
-      rw (q, p.leaves)
-          (ap₂ (λ (x : ℕ) (l : List ℕ). Some (packet x k l)) (sym roomy) (take_at m (drop (length m) before) (length m) refl)),
-      rw (q, p.leaves) (simp length-append (omega arith)),
-    )
-back (Some (sense n x y z)) roomy before l after p = let q = same_Some l _ p.says in (rw (q, ← roomy) refl, rw q (omega arith))
+    rw (same_Some l _ p.says, p.leaves)
+    (ap₂ (λ (x : ℕ) (l : List ℕ). Some (packet x k l)) (sym roomy) (take_at m (drop (length m) before) (length m) refl))
+back (Some (sense n x y z)) roomy before l after p = rw (same_Some l _ p.says, ← roomy) refl
 
-module _ (setup : Bool) (l before : List ℕ) (r : Line) (after : List ℕ) (p : Parses (meant_by setup l) before (Some r) after) where
-  pub parsed_event : Some (event_for r after) ≡ meant_by setup l
-  parsed_event = (back (meant_by setup l) (meant_roomy setup l) before r after p).0
-
-  pub parsed_heard : heard_of r ≤ length after
-  parsed_heard = (back (meant_by setup l) (meant_roomy setup l) before r after p).1
+pub parsed_event : (setup : Bool) (l before : List ℕ) (r : Line) (after : List ℕ) → Parses (meant_by setup l) before (Some r) after
+    → Some (event_for r after) ≡ meant_by setup l
+parsed_event setup l before r after p = back (meant_by setup l) (meant_roomy setup l) before r after p
 
 -- a line out of form means none, and leaves the octets as they were
 pub out_of_form : (e : Option Event) (before after : List ℕ) → Parses e before None after → (e ≡ None) × (after ≡ before)
@@ -135,15 +128,6 @@ setup_parses l before r e = go (fits (text "## ##") l) e
         → Parses (cond b (Some (write_event (octet_at 0 l) (octet_at 3 l))) None) before r before
     go true e = record { says = e; leaves = refl }
     go false e = record { says = e; leaves = refl }
-
--- ---- the device serves it
-
-module _ (d : Device) (line : Line) (os before : List ℕ) (long : length before ≡ 73) (r : Outcome) (after : List ℕ) where
-  pub serves_as : (l : Line) (f : ℕ → Event) → line ≡ l → event_for l os ≡ f 73 → Serves (f (length before)) d before r after → Serves (event_for line os) d before r after
-  serves_as l f e q h = rw (e, q) (subst (λ (n : ℕ). Serves (f n) d before r after) long h)
-
-pub heard_within : (line : Line) (k n : ℕ) (os : List ℕ) → line ≡ Packet k n → heard_of line ≤ length os → n ≤ length os
-heard_within line k n os e h = rw e at h
 
 -- ---- what it prints
 

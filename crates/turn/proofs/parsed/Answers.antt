@@ -4,6 +4,3 @@ use Rattle.turn.proofs.parsed.Goals as goal
 
 pub returns-then-setup : goal.returns-then-setup
 returns-then-setup c = rw c.if-setup.true (setup_parses _ _ _ c.parse_setup.ensures)
-
-pub returns : goal.returns
-returns c = rw c.if-setup.false c.parse_event.ensures

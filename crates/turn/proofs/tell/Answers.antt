@@ -1,6 +1,6 @@
 -- Without room nothing is done; else the line is parsed, done and printed.
 use mathlib.Core.Path.{sym, ◌∙◌}
-use Rattle.turn.proofs.Turning.{parsed_heard, tells_none, tells_bad, tells_line}
+use Rattle.turn.proofs.Turning.{tells_none, tells_bad, tells_line}
 use Rattle.turn.proofs.tell.Goals as goal
 
 pub returns-then-not-has_room-clause-takes : goal.returns-then-not-has_room-clause-takes
@@ -10,11 +10,6 @@ pub returns-in_default-clause-takes : goal.returns-in_default-clause-takes
 returns-in_default-clause-takes g c =
     let room = sym c.has_room.ensures ∙ c.if-not-has_room.false in
     tells_bad _ _ _ _ _ _ _ _ _ room room c.requires c.in_default.ensures c.print_bad.ensures.prints
-
-pub act-requires : goal.act-requires
-act-requires g c =
-    let a = c.args in
-    (c.requires, parsed_heard a.setup a.line.now _ _ _ c.in-Some.ensures, sym c.has_room.ensures ∙ c.if-not-has_room.false)
 
 pub returns-clause-takes : goal.returns-clause-takes
 returns-clause-takes g c =

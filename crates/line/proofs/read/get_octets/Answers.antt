@@ -1,12 +1,9 @@
-use mathlib.Core.Path.{refl, ◌∙◌}
+use mathlib.Core.Path.{◌∙◌}
 use Prim.Native.Nat.{◌+◌, ◌*◌}
 use native.Mathlib.Omega.{arith}
 use Rattle.line.proofs.Stores.{get_more, get_all}
 use Rattle.line.proofs.Reading.{pairs_within, nibble_at, length_pairs, all_gathered}
 use Rattle.line.proofs.read.get_octets.Goals as goal
-
-pub loop-i-init : goal.loop-i-init
-loop-i-init c = refl
 
 pub bounds-body-i : goal.bounds-body-i
 bounds-body-i c = omega (arith, pairs_within _ _ c.requires)

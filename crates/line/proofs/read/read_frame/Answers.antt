@@ -3,22 +3,13 @@ use mathlib.Core.Path.{ap, ◌∙◌}
 use native.Mathlib.Omega.{arith}
 use lib.ListN.{length, length-drop}
 use Rattle.std.proofs.lemmas.Result.{err_from_is_err_and}
-use Rattle.line.proofs.Reading.{part_is, rest_long, small, set_refused, set_fits, set_alone, set_message}
+use Rattle.line.proofs.Reading.{part_is, rest_long, set_refused, set_fits, set_alone, set_message}
 use Rattle.line.proofs.read.read_frame.Goals as goal
-
-pub returns-then-octets-lt-OCTET_ROOM : goal.returns-then-octets-lt-OCTET_ROOM
-returns-then-octets-lt-OCTET_ROOM c = small _ _ _ c.if-octets-lt-OCTET_ROOM.true
 
 pub returns-in_err-set : goal.returns-in_err-set
 returns-in_err-set c =
     let p = err_from_is_err_and c.from_residual.result c.from_residual.ensures.1 in
     rw (p.1, p.2) (set_refused _ _ _ _ c.if-octets-lt-OCTET_ROOM.false c.rest-part.ensures.holds _ c.in_err-set.ensures)
-
-pub slice_bounds-read_message-count : goal.slice_bounds-read_message-count
-slice_bounds-read_message-count c = set_fits _ _ _ c.in_ok-set.ensures
-
-pub slice_bounds-read_message-start : goal.slice_bounds-read_message-start
-slice_bounds-read_message-start c = omega (arith, set_fits _ _ _ c.in_ok-set.ensures)
 
 pub read_message-requires : goal.read_message-requires
 read_message-requires c =

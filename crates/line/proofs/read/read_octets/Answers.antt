@@ -4,11 +4,8 @@ use mathlib.Core.List.{List, ◌++◌}
 use Prim.Native.Nat.{ℕ}
 use lib.ListN.{drop}
 use native.Mathlib.Omega.{arith}
-use Rattle.line.proofs.Reading.{length_pairs, held_octets, held_long, crc_wrong, crc_agrees}
+use Rattle.line.proofs.Reading.{length_pairs, held_octets, crc_wrong, crc_agrees}
 use Rattle.line.proofs.read.read_octets.Goals as goal
-
-pub slice_bounds-right-end : goal.slice_bounds-right-end
-slice_bounds-right-end c = held_long _ _ _ _ c.requires.2 c.requires.0 c.get_octets.ensures
 
 pub returns-then-right : goal.returns-then-right
 returns-then-right c =

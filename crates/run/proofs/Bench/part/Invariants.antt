@@ -5,4 +5,4 @@ use Rattle.fusb302.specs.View.{Asks}
 use Rattle.run.proofs.Bench.part.Given as goal
 
 abbrev pub invariant-loop : goal.invariant-loop
-invariant-loop g l = Asks l.self.device × (l.self.number ≡ l.initial.self.number + l.counter)
+invariant-loop g l = Asks l.device × (l.self.number ≡ l.initial.self.number + l.counter)

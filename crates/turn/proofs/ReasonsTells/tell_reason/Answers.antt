@@ -7,8 +7,8 @@ pub returns-in-Packet-clause-tells : goal.returns-in-Packet-clause-tells
 unfolding TellsReason
 returns-in-Packet-clause-tells c =
     let a = c.args in
-    tells_why _ a.line a.octets.now _ _ _ c.why.result c.in-Packet.is c.why.ensures c.print_why.ensures.prints
+    tells_why _ a.given.line a.given.octets.now _ _ _ c.why.result c.in-Packet.is c.why.ensures c.print_why.ensures.prints
 
 pub returns-in_default-clause-tells : goal.returns-in_default-clause-tells
 unfolding TellsReason
-returns-in_default-clause-tells c = let a = c.args in tells_nothing _ a.line a.octets.now _ _ c.in_default.not-Packet
+returns-in_default-clause-tells c = let a = c.args in tells_nothing _ a.given.line a.given.octets.now _ _ c.in_default.not-Packet

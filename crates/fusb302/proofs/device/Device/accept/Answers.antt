@@ -3,9 +3,9 @@ use Rattle.fusb302.proofs.Hearing.{has_room, no_room_lem, accepts_stores, accept
 use Rattle.fusb302.proofs.device.Device.accept.Goals as goal
 
 pub returns-then-noted-packet-le-CAPACITY : goal.returns-then-noted-packet-le-CAPACITY
-returns-then-noted-packet-le-CAPACITY c = accepts_stores c.args.self c.checked.result c.acknowledged.result c.soft_reset-noted.result _ _ _ _ c.awaits-awaited.ensures c.is_control.ensures c.checked.ensures c.acknowledged.ensures c.soft_reset-noted.ensures (has_room c.soft_reset-noted.result c.args.packet.now c.if-noted-packet-le-CAPACITY.true) _ _ _ c.store.ensures
+returns-then-noted-packet-le-CAPACITY c = accepts_stores c.args.self c.noted-noted.result _ _ c.noted-noted.ensures (has_room c.noted-noted.result c.args.packet.octets.now c.if-noted-packet-le-CAPACITY.true) _ _ _ c.store.ensures
 
 pub returns : goal.returns
 returns c =
     rw c.done.ensures
-    (accepts_full c.args.self c.checked.result c.acknowledged.result c.soft_reset-noted.result _ _ _ _ c.awaits-awaited.ensures c.is_control.ensures c.checked.ensures c.acknowledged.ensures c.soft_reset-noted.ensures (no_room_lem c.soft_reset-noted.result c.args.packet.now c.if-noted-packet-le-CAPACITY.false) c.raises.result c.raises.ensures _)
+    (accepts_full c.args.self c.noted-noted.result _ _ c.noted-noted.ensures (no_room_lem c.noted-noted.result c.args.packet.octets.now c.if-noted-packet-le-CAPACITY.false) c.raises.result c.raises.ensures _)

@@ -1,10 +1,7 @@
 -- The voltages are other ones, and what that changes is reported.
 use native.Mathlib.Omega.{arith}
-use Rattle.fusb302.proofs.Sensing.{sense_small, sense_taken}
+use Rattle.fusb302.proofs.Sensing.{sense_taken}
 use Rattle.fusb302.proofs.device.Device.sense.Goals as goal
-
-pub returns-then-symbols-lt-FRAME_ROOM : goal.returns-then-symbols-lt-FRAME_ROOM
-returns-then-symbols-lt-FRAME_ROOM c = rw c.refuse.ensures (sense_small _ c.requires _ _ _ _ c.if-symbols-lt-FRAME_ROOM.true)
 
 pub returns : goal.returns
 returns c =

@@ -1,11 +1,11 @@
 -- The request is over and the bits set; a Hard Reset is sent if that was latched.
-use Rattle.machine.proofs.Staying.{reset_whole}
+use Rattle.fusb302.proofs.Sending.{fits_reset}
 use Rattle.fusb302.proofs.Becoming.{over_noted}
 use Rattle.fusb302.proofs.Waiting.{soft_ends, soft_hard}
 use Rattle.fusb302.proofs.device.Device.soft_fails.Goals as goal
 
 pub put-count-requires : goal.put-count-requires
-put-count-requires c = reset_whole
+put-count-requires c = fits_reset
 
 pub returns-then-request : goal.returns-then-request
 returns-then-request c =
