@@ -19,7 +19,7 @@ EDITS = {
                                        'expected `Millivolts`, found `u8`'),
     'the register for the code': ('MdacCode::of(measure).reference(MDAC_STEP_VBUS)', 'measure.reference(MDAC_STEP_VBUS)',
                                   'no method named `reference` found for type `u8`'),
-    'a voltage for the code': ('MdacCode::of(measure).reference(MDAC_STEP_VBUS)', 'vbus.reference(MDAC_STEP_VBUS)',
+    'a voltage for the code': ('MdacCode::of(measure).reference(MDAC_STEP_VBUS)', 'self.pins.vbus.reference(MDAC_STEP_VBUS)',
                                'no method named `reference` found for type `Millivolts`'),
     'a bare number for a threshold': ('vbus.above(VBUS_THRESHOLD)', 'vbus.above(4000)', 'expected `Millivolts`, found an integer'),
 }

@@ -6,11 +6,12 @@ ghost use Rattle.text.specs.Put.{has_room};
 ghost use Rattle.listing.specs.Lines.{frame_line_room};
 
 use line::write::FRAME_ROOM;
-use listing::{FRAME_LINE_ROOM, Listing, feed, finish};
+use listing::{FRAME_LINE_ROOM, Listing};
 use stream::Console;
 use text::Page;
 
 // Between characters: the console, and what is held of the record.
+// Pages of the console are made here, and by no method of it: stream/src/console.rt.
 // Room for a line is a clause and no ghost field: it holds behind `Console::room` alone, and a text takes of it.
 #[derive(Drop)]
 struct Run {
@@ -28,7 +29,7 @@ impl Run {
             octets: &mut self.console.out,
             at: self.console.stream.used,
         };
-        finish(self.listing, &mut page);
+        self.listing.finish(&mut page);
         let used = page.at;
         self.console.stepped(used, true);
     }
@@ -40,7 +41,7 @@ impl Run {
             octets: &mut self.console.out,
             at: self.console.stream.used,
         };
-        let next = feed(self.listing, c, &mut self.window, &mut page);
+        let next = self.listing.feed(c, &mut self.window, &mut page);
         let used = page.at;
         self.console.stepped(used, next.is_none());
         self.listing = next.unwrap_or(self.listing);
@@ -61,7 +62,7 @@ impl Run {
         }
     }
 
-    // Each character in turn. A proved loop has to end and no input need: 2 to the power of 64 characters are never read.
+    // Each character in turn. A loop without end would ask for Wait, so that this one ends, after 2^64 - 1 characters, which are never read.
     fn all(&mut self) {
         for _ in 0..usize::MAX {
             self.one();
@@ -75,7 +76,7 @@ impl Run {
 fn main(rt: HostRuntime) {
     let mut run = Run {
         console: Console::new(rt.stdin(), rt.stdout()),
-        listing: listing::begin(),
+        listing: Listing::begin(),
         window: [0; FRAME_ROOM],
     };
     run.all();

@@ -1,13 +1,13 @@
 -- Reads and a Hard Reset heard: the answer of each way out.
 -- Assumes nothing.
-use mathlib.Core.Path.{◌≡◌, refl, sym, ap, ◌∙◌, subst}
+use mathlib.Core.Path.{◌≡◌, refl, ap, ◌∙◌, subst}
 use mathlib.Core.Bool.{true, false, cond, ◌&&◌}
-use mathlib.Core.List.{List}
-use Prim.Native.Nat.{ℕ, ◌-◌, ◌<◌, ◌≤◌}
+use mathlib.Core.List.{List, [], ◌∷◌}
+use Prim.Native.Nat.{ℕ, suc, ◌+◌, ◌-◌, ◌<◌, ◌≤◌}
 use native.Mathlib.Omega.{arith}
-use borrow.Author.Tests.{lt-ltb, le-ltb, le-leb, lt-leb, eq-eqb, ne_eqb}
+use borrow.Author.Tests.{lt-ltb, le-ltb, le-leb, lt-leb, ne_eqb}
 use lib.Dec.{leb, eqb}
-use lib.ListN.{length, drop, get_or}
+use lib.ListN.{length, get_or}
 use Rattle.line.specs.Frame.{joined}
 use Rattle.line.specs.Write.{frame_room}
 use Rattle.machine.specs.Registers.{cell, fifos, device_id, status0a, interrupta, interruptb, interrupt, is_stored, read_only, exists}
@@ -19,6 +19,8 @@ use Rattle.machine.specs.Step.{accepted, reply_to, read_value, after_read}
 use Rattle.machine.proofs.Checking.{read_checks, reset_checks}
 use Rattle.fusb302.specs.declared.bits.Place.{Place}
 use Rattle.fusb302.specs.declared.bits.Place.TheVariants.{Id, Stored, Shown, Port}
+use Rattle.fusb302.specs.declared.device.Cell.{Cell}
+use Rattle.fusb302.specs.declared.fifo.Fifo.{Fifo}
 use Rattle.fusb302.specs.declared.device.Device.{Device}
 use Rattle.fusb302.specs.declared.device.Outcome.{Outcome}
 use Rattle.std.specs.Prelude.{Option, Some, None, Ok, Err}
@@ -28,7 +30,7 @@ use Rattle.fusb302.specs.Held.{held}
 use Rattle.fusb302.specs.View.{ints_of, view, Arranged, Asks}
 use Rattle.fusb302.specs.Serves.{Serves, PortRead}
 use Rattle.fusb302.proofs.Serving.{serves_no, serves_yes}
-use Rattle.fusb302.proofs.Showing.{arranged, held_length}
+use Rattle.fusb302.proofs.Showing.{arranged}
 
 -- ---- reads
 
@@ -66,9 +68,9 @@ pub is_id : (a : ℕ) (p : Place) → Placed a (Some p) → p ≡ Id → a ≡ d
 unfolding Placed
 is_id a p h e = subst (λ (x : Place). Placed a (Some x)) e h
 
-pub is_stored_lem : (a : ℕ) (p : Place) → Placed a (Some p) → p ≡ Stored → (2 ≤ a) × (a ≤ 0x10)
+pub is_stored_lem : (a : ℕ) (p : Place) (c : Cell) → Placed a (Some p) → p ≡ Stored c → a ≡ c.at + 2
 unfolding Placed
-is_stored_lem a p h e = subst (λ (x : Place). Placed a (Some x)) e h
+is_stored_lem a p c h e = subst (λ (x : Place). Placed a (Some x)) e h
 
 pub is_shown : (a : ℕ) (p : Place) → Placed a (Some p) → p ≡ Shown → (0x3C ≤ a) × (a ≤ 0x42)
 unfolding Placed
@@ -102,24 +104,21 @@ at_shown a lo hi =
 -- ---- the port
 
 module _ (d : Device) (asks : Asks d) where
-  pub port_empty : d.rx.len ≡ 0 → PortRead d (record { device = d; reply = Err NothingHeld; count = 0 })
+  pub port_empty : held d.rx ≡ [] → PortRead d (record { device = d; reply = Err NothingHeld; count = 0 })
   unfolding exists is_stored read_only
   port_empty h =
       record {
         serves = λ before room.
             serves_no (read (length before) fifos) d before asks NothingHeld
-            (read_checks (view d) (length before) fifos
-            ∙ simp (le-ltb (length before) frame_room room, eq-eqb (length (held d.rx)) 0 (held_length d.rx ∙ h)));
+            (read_checks (view d) (length before) fifos ∙ simp (le-ltb (length before) frame_room room, h));
       }
 
-  pub port_read : (d.rx.len ≡ 0 → ⊥) → (v : ℕ) (t : Device) → v ≡ get_or (held d.rx) 0 0 → view t ≡ with_rx (drop 1 (held d.rx)) (view d)
+  pub port_read : (v : ℕ) (f : Fifo) → held d.rx ≡ v ∷ held f → (t : Device) → view t ≡ with_rx (held f) (view d)
       → PortRead d (record { device = t; reply = Ok (Some v); count = 0 })
   unfolding exists is_stored read_only after_read read_value
-  port_read h v t p q =
+  port_read v f h t p =
       record {
-        serves = λ before room.
-            read_gives d asks before fifos room refl
-            (ne_eqb (length (held d.rx)) 0 (λ e. h (sym (held_length d.rx) ∙ e))) (omega arith) v t (arranged t) q p;
+        serves = λ before room. read_gives d asks before fifos room refl (rw h (ne_eqb (suc (length (held f))) 0 (λ e. omega arith))) (omega arith) v t (arranged t) (rw h p) (rw h refl);
       }
 
 -- ---- a Hard Reset heard
@@ -153,14 +152,16 @@ module _ (d : Device) (asks : Asks d) (before : List ℕ) (room : frame_room ≤
         read_of d asks before a room w.1 w.0 (omega arith) 0x91 d
         (nothing_cleared (rw e refl) (rw e refl) (rw e refl)) (rw e refl)
 
-    pub read_stored : p ≡ Stored
-        → Serves (read (length before) a) d before (record { device = d; reply = Ok (Some (get_or d.cells (a - 2) 0)); count = 0 }) before
-    read_stored k =
-        let h = is_stored_lem a p placed k in
-        let w = at_stored a h.0 h.1 in
-        read_of d asks before a room w.1 w.0 (omega arith) (get_or d.cells (a - 2) 0) d
+    pub read_stored : (c : Cell) → p ≡ Stored c
+        → Serves (read (length before) a) d before (record { device = d; reply = Ok (Some (get_or d.cells c.at 0)); count = 0 }) before
+    read_stored c k =
+        let e = is_stored_lem a p c placed k in
+        let less = c.among in
+        let w = at_stored a (omega arith) (omega arith) in
+        let at : a - 2 ≡ c.at = omega arith in
+        read_of d asks before a room w.1 w.0 (omega arith) (get_or d.cells c.at 0) d
         (nothing_cleared (ne_eqb a interrupta (λ e. omega arith)) (ne_eqb a interruptb (λ e. omega arith)) (ne_eqb a interrupt (λ e. omega arith)))
-        (rw (w.3, w.2) refl)
+        (rw (w.3, w.2, at) refl)
 
     pub read_shown : p ≡ Shown → (v : ℕ) (t : Device) → v ≡ get_or (shown (view d)) (a - status0a) 0
         → view t ≡ with_ints (cleared_at a (ints_of d.ints)) (view d)

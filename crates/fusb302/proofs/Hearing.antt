@@ -6,12 +6,11 @@ use mathlib.Core.Path.{◌≡◌, refl, sym, ap, ◌∙◌, subst}
 use mathlib.Core.Bool.{Bool, true, false, cond, ◌&&◌}
 use mathlib.Core.List.{List, [], ◌∷◌, ◌++◌}
 use mathlib.Core.Option.{Option, none, some}
-use Prim.Native.Nat.{ℕ, zero, suc, ◌+◌, ◌-◌, ◌<◌, ◌≤◌}
+use Prim.Native.Nat.{ℕ, suc, ◌<◌, ◌≤◌}
 use native.Mathlib.Omega.{arith}
-use borrow.Author.Tests.{lt-ltb, le-ltb, le-leb, lt-leb, eq-eqb, ne_eqb}
+use borrow.Author.Tests.{lt-ltb, le-ltb, eq-eqb, ne_eqb}
 use lib.Dec.{eqb}
-use lib.ListN.{length, take, drop, get_or, length-take}
-use Rattle.std.proofs.lemmas.List.{get_or-drop}
+use lib.ListN.{length, drop, get_or}
 use Rattle.std.specs.Array.{IsFirstChunk}
 use Rattle.line.specs.declared.kind.SopKind.{SopKind}
 use Rattle.line.specs.Numbered.{sop_number}
@@ -29,7 +28,6 @@ use Rattle.machine.specs.Events.{Event, packet}
 use Rattle.machine.specs.Step.{accepted, reply_to}
 use Rattle.machine.proofs.Resetting.{reset_id}
 use Rattle.machine.proofs.Checking.{packet_checks}
-use Rattle.machine.proofs.Spelling.{spelt_exactly}
 use Rattle.fusb302.specs.declared.queue.Message.{Message}
 use Rattle.fusb302.specs.declared.fifo.Fifo.{Fifo}
 use Rattle.fusb302.specs.declared.device.Device.{Device}
@@ -46,21 +44,10 @@ use Rattle.fusb302.specs.View.{asked, view, Asks}
 use Rattle.fusb302.specs.Serves.{Becomes, Sends, Does, Serves}
 use Rattle.fusb302.proofs.Serving.{serves_no, serves_no_in, serves_in}
 use Rattle.fusb302.proofs.Showing.{arranged, held_length}
-use Rattle.fusb302.proofs.Sending.{sends_none, spelt_in_array}
+use Rattle.fusb302.proofs.Sending.{sends_none, by_answer}
 use Rattle.fusb302.proofs.Becoming.{done, and_then, silently, sending}
 
 -- ---- the GoodCRC that is awaited
-
--- the MessageID is in the first two octets
-front : (n : ℕ) (l : List ℕ) → 2 ≤ n → message_id (take n l) ≡ message_id (get_or l 0 0 ∷ get_or l 1 0 ∷ [])
-front zero l h = absurd (omega arith)
-front (suc zero) l h = absurd (omega arith)
-front (suc (suc n)) [] h = refl
-front (suc (suc n)) (x ∷ []) h = refl
-front (suc (suc n)) (x ∷ (y ∷ l)) h = refl
-
-front_of_message : (n : ℕ) (l : List ℕ) → 2 ≤ n → message_id (take n (drop 5 l)) ≡ message_id (get_or l 5 0 ∷ get_or l 6 0 ∷ [])
-front_of_message n l h = rw (← get_or-drop 5 l 0 0, ← get_or-drop 5 l 1 0) (front n (drop 5 l) h)
 
 no_answer : (k : ℕ) (m : List ℕ) (o : Option Frame) → is_control GoodCRC m ≡ false → answers k m o ≡ false
 no_answer k m none h = refl
@@ -84,24 +71,19 @@ module _ (d : Device) (k : ℕ) (m : List ℕ) where
         rw (active, on, h)
         (p ∙ ap (λ (i : ℕ). eqb j k && eqb i (message_id m)) (sym (reset_id j (asked q))))
 
-    module _ (sending : q.resetting ≡ None) (r : rust.Option Message) (is : spelt_as r (queued d.tx) ≡ spelt (queued d.tx)) where
+    module _ (sending : q.resetting ≡ None) (r : rust.Option Message) (is : spelt_as r ≡ spelt (queued d.tx)) where
       pub awaits_nothing : r ≡ None → false ≡ awaited k m (view d)
       unfolding awaited_by flight_in
       awaits_nothing e =
           let nothing : none ≡ spelt (queued d.tx) = rw e at is in
           rw (active, sending, ← nothing) refl
 
-      pub awaits_message : is_control GoodCRC m ≡ true → (s : Message) → r ≡ Some s → (id : ℕ) → id ≡ message_id (get_or d.tx.octets 5 0 ∷ get_or d.tx.octets 6 0 ∷ [])
+      pub awaits_message : is_control GoodCRC m ≡ true → (s : Message) → r ≡ Some s → (id : ℕ) → id ≡ message_id s.octets.now
           → (b : Bool) → b ≡ (eqb (sop_number s.kind) k && eqb id (message_id m)) → b ≡ awaited k m (view d)
       unfolding awaited_by flight_in
       awaits_message h s e id p-id b p =
-          let n = 5 + s.count - 5 in
-          let is-sent = spelt_in_array d.tx r is s e in
-          let many = ((spelt_exactly (queued d.tx) _).0 is-sent).many in
-          let long = length-take n (drop 5 d.tx.octets) in
-          let two : 2 ≤ n = omega arith in
-          rw (active, sending, is-sent, h)
-          (p ∙ ap (λ (i : ℕ). eqb (sop_number s.kind) k && eqb i (message_id m)) (p-id ∙ sym (front_of_message n d.tx.octets two)))
+          rw (active, sending, by_answer d.tx r is s e, h)
+          (p ∙ ap (λ (i : ℕ). eqb (sop_number s.kind) k && eqb i (message_id m)) p-id)
 
 -- ---- what is stored
 
@@ -161,13 +143,6 @@ module _ (d : Device) (k : ℕ) (m : List ℕ) (t : Device) (kept : Becomes (kee
       rw e (sending _ u (and_then _ t kept (raises_b I_GCRCSENT) u x) before n after (control GoodCRC k (get_or d.cells 1 0) (message_id m)) sent)
 
 -- ---- a packet whose CRC is right
-
--- room, by the FIFO's count
-pub has_room : (d : Device) → (m : List ℕ) → d.rx.len + 1 + length m ≤ 80 → fits_rx m (view d) ≡ true
-has_room d m lt = let l = held_length d.rx in le-leb (length (held d.rx) + suc (length m)) 80 (omega arith)
-
-pub no_room_lem : (d : Device) → (m : List ℕ) → 80 < d.rx.len + 1 + length m → fits_rx m (view d) ≡ false
-no_room_lem d m lt = let l = held_length d.rx in lt-leb (length (held d.rx) + suc (length m)) 80 (omega arith)
 
 module _ (d c : Device) (k : ℕ) (m : List ℕ) (noted_in : Becomes (noted k m (view d)) c) where
   is_noted : view c ≡ noted k m (view d)

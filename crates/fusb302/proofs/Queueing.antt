@@ -13,7 +13,7 @@ use Prim.Native.Nat.{ℕ, zero, suc, ◌+◌, ◌-◌, ◌<◌, ◌≤◌}
 use native.Mathlib.Numerals.{add-one}
 use native.Mathlib.Omega.{arith}
 use native.Mathlib.Decide.{dec_le}
-use borrow.Author.Tests.{ltb-true, leb-true, eqb-true, lt-ltb, le-leb, eq-eqb, ne_eqb}
+use borrow.Author.Tests.{ltb-true, eqb-true, lt-ltb, le-leb, eq-eqb, ne_eqb}
 use lib.Dec.{ltb, leb, eqb}
 use lib.ListN.{length, take, drop, get_or, set, length-take, length-drop, get_or-eq_default}
 use lib.Seq.{take-suc-set, length-take-le, get_or-take, take-take}
@@ -51,7 +51,7 @@ pub pushed : (octets : List ℕ) (len b : ℕ) → len < length octets → take 
 pushed octets len b h = rw (add-one len, take-suc-set octets len b h)
 
 -- a token that announces nothing announces 0
-pub announced_or : (o : rust.Option ℕ) (n : ℕ) → MatchOption o (n ≡ 0) (λ k. (k ≡ n) × (0 < k)) → unwrap_or o 0 ≡ n
+pub announced_or : (o : rust.Option ℕ) (n : ℕ) → MatchOption o (n ≡ 0) (λ k. (k ≡ n) × (2 ≤ k) × (k ≤ 30)) → unwrap_or o 0 ≡ n
 announced_or rust.None n e = sym e
 announced_or (rust.Some k) n e = e.0
 
@@ -199,16 +199,6 @@ sop_below SopDoublePrimeDebug = omega arith
 pub sop_four : (s : SopKind) (k : ℕ) → sop_number s ≡ k → k ≤ 4
 sop_four s k e = omega (arith, sop_below s)
 
--- a token announces no octet, or two at least
-counted : (x : ℕ) → (announced x ≡ 0 → ⊥) → 2 ≤ announced x
-unfolding announced
-counted x = go (leb 0x82 x) refl (leb x 0x9E)
-  where
-    go : (a : Bool) → leb 0x82 x ≡ a → (b : Bool) → (cond (a && b) (x - 0x80) 0 ≡ 0 → ⊥) → 2 ≤ cond (a && b) (x - 0x80) 0
-    go true d true n = let h = leb-true 0x82 x d in omega arith
-    go true d false n = absurd (n refl)
-    go false d b n = absurd (n refl)
-
 -- of no SOP kind
 no_sop : (k : Option ℕ) (n : ℕ) (q : List ℕ) → none ≡ sop_only k → none ≡ spelt_by k n q
 unfolding spelt_by carries
@@ -231,9 +221,9 @@ longer [] (y ∷ b) h = refl
 longer (x ∷ a) [] h = refl
 longer (x ∷ a) (y ∷ b) h = simp (longer a b (λ e. h (ap suc e)), and-false)
 
-chosen : (r : Bool) (m : Message) (l : List ℕ) → spelt_as (then_some r m) l ≡ cond r (some (record { kind = sop_number m.kind; octets = take m.count (drop 5 l) })) none
-chosen true m l = refl
-chosen false m l = refl
+chosen : (r : Bool) (m : Message) → spelt_as (then_some r m) ≡ cond r (some (record { kind = sop_number m.kind; octets = m.octets.now })) none
+chosen true m = refl
+chosen false m = refl
 
 -- an SOP kind says which set it is
 sop_is : (o : Option ℕ) (k : ℕ) → some k ≡ sop_only o → o ≡ some k
@@ -246,6 +236,13 @@ sop_is o k e = go o (sym e)
     go : (o : Option ℕ) → sop_only o ≡ some k → o ≡ some k
     go none e = e
     go (some j) e = under j (ltb j sop_kinds) e
+
+-- a part of a beginning that it does not leave
+within : (a n len : ℕ) (l : List ℕ) → a + n ≤ len → take n (drop a (take len l)) ≡ take n (drop a l)
+within zero n len l h = take-take n len l (omega arith)
+within (suc a) n zero l h = absurd (omega arith)
+within (suc a) n (suc len) [] h = refl
+within (suc a) n (suc len) (x ∷ l) h = within a n len l (omega arith)
 
 module _ (octets : List ℕ) (len : ℕ) where
   -- where the queue has no fifth octet, it announces nothing
@@ -286,16 +283,19 @@ module _ (octets : List ℕ) (len : ℕ) where
     pub spelt_unset : none ≡ kind_of (take 4 octets) → none ≡ spelt (take len octets)
     spelt_unset e = no_sop _ n (take len octets) e ∙ sym at_length
 
-    pub spelt_set : (s : SopKind) → (n ≡ 0 → ⊥) → some (sop_number s) ≡ kind_of (take 4 octets)
+    pub spelt_set : (m : Message) → 2 ≤ n → some (sop_number m.kind) ≡ kind_of (take 4 octets) → m.octets.now ≡ take (5 + n - 5) (drop 5 octets)
         → (r : Bool) → r ≡ ends_with eqb (take len octets) closing
-        → spelt_as (then_some r (record { kind = s; count = n })) (take len octets) ≡ spelt (take len octets)
+        → spelt_as (then_some r m) ≡ spelt (take len octets)
     unfolding spelt_by carries
-    spelt_set s some-n kind r ends =
-        let two : 2 ≤ n = omega (arith, counted (get_or octets 4 0) (λ e. some-n (count ∙ e))) in
+    spelt_set m two kind cut r ends =
+        let s = m.kind in
         let q = take len octets in
         let at : 5 + n ≡ length q - 3 = omega (arith, length-take-le len octets room) in
         let end : same_list (drop (5 + n) q) closing ≡ r =
         same_slices (drop (5 + n) q) closing ∙ ap (λ i. pointwise eqb closing (drop i q)) at ∙ sym ends in
         let sop : kind_from 0 ordered_sets (map set_symbol (take 4 octets)) ≡ some (sop_number s) = sop_is _ (sop_number s) kind in
-        chosen r (record { kind = s; count = n }) q
-        ∙ sym (at_length ∙ rw (sop, end, le-leb 2 n two, lt-ltb (sop_number s) sop_kinds (sop_below s)) refl)
+        let is : m.octets.now ≡ take n (drop 5 q) =
+        let less : 5 + n - 5 ≡ n = omega arith in
+        cut ∙ rw less (sym (within 5 n len octets (omega arith))) in
+        chosen r m
+        ∙ sym (at_length ∙ rw (is, sop, end, le-leb 2 n two, lt-ltb (sop_number s) sop_kinds (sop_below s)) refl)

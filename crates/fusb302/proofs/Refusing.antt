@@ -3,10 +3,11 @@
 use mathlib.Core.Path.{◌≡◌, refl, sym, ap, ◌∙◌}
 use mathlib.Core.Bool.{Bool, true, false, not, cond, ◌&&◌, ◌||◌, or-false, and-eq-true_iff}
 use mathlib.Core.List.{[]}
+use mathlib.Core.Logic.{◌⊎◌, inl, inr}
 use mathlib.Core.Option.{Option, none, some}
-use Prim.Native.Nat.{ℕ, zero, suc, ◌<◌, ◌≤◌}
+use Prim.Native.Nat.{ℕ, zero, suc, ◌+◌, ◌<◌, ◌≤◌}
 use native.Mathlib.Omega.{arith}
-use borrow.Author.Tests.{lt-ltb, le-ltb, le-leb, lt-leb, leb-true, leb-false, eqb-true, ne_eqb, not-true}
+use borrow.Author.Tests.{lt-ltb, le-ltb, le-leb, lt-leb, leb-false, eqb-true, ne_eqb, not-true}
 use lib.Dec.{ltb, leb, eqb}
 use lib.ListN.{length, get_or}
 use Rattle.std.specs.Prelude as rust
@@ -21,6 +22,7 @@ use Rattle.machine.specs.Events.{write}
 use Rattle.machine.specs.Refusals.{tx_start, port_start, starts, sends_reset, to_be_stored, queue_at, refusal}
 use Rattle.machine.proofs.Checking.{write_checks}
 use Rattle.machine.proofs.Spelling.{spelt_nil}
+use Rattle.fusb302.specs.declared.device.Cell.{Cell}
 use Rattle.fusb302.specs.declared.device.Device.{Device}
 use Rattle.fusb302.specs.declared.device.Request.{Request}
 use Rattle.fusb302.specs.declared.bits.Place.{Place}
@@ -165,38 +167,28 @@ module _ (d : Device) where
 
 -- ---- other addresses
 
-there : (e r : Bool) (o : Option ℕ) → cond (not e || false) (some 1) (cond r (some 2) o) ≡ none → (e ≡ true) × (r ≡ false)
-there true true o h = let z : ◌≡◌ {A = ℕ} 0 1 = cc in absurd (omega arith)
-there true false o h = (refl, refl)
-there false r o h = let z : ◌≡◌ {A = ℕ} 0 1 = cc in absurd (omega arith)
-
 module _ (s : State) (a v : ℕ) where
-  pub write_nowhere : exists a ≡ false → Refuses s a v (Err NoSuchAddress)
-  write_nowhere e = record { is = λ room h. write_checks s room a v ∙ rw (le-ltb room frame_room h, e) refl }
+  pub refused_nowhere : exists a ≡ false → Refuses s a v (Err NoSuchAddress)
+  refused_nowhere e = record { is = λ room h. write_checks s room a v ∙ rw (le-ltb room frame_room h, e) refl }
 
   read_only_lem : exists a ≡ true → read_only a ≡ true → Refuses s a v (Err ReadOnly)
   read_only_lem e k = record { is = λ room h. write_checks s room a v ∙ rw (le-ltb room frame_room h, e, k) refl }
 
   module _ (p : Place) (placed : Placed a (Some p)) where
-    pub write_id : p ≡ Id → Refuses s a v (Err ReadOnly)
+    at_id_lem : p ≡ Id → Refuses s a v (Err ReadOnly)
     unfolding read_only
-    write_id k = let e = is_id a p placed k in read_only_lem (at_id a e).0 (rw e refl)
+    at_id_lem k = let e = is_id a p placed k in read_only_lem (at_id a e).0 (rw e refl)
 
-    pub write_shown : p ≡ Shown → Refuses s a v (Err ReadOnly)
+    at_shown_lem : p ≡ Shown → Refuses s a v (Err ReadOnly)
     unfolding read_only
-    write_shown k =
+    at_shown_lem k =
         let h = is_shown a p placed k in
         let w = at_shown a h.0 h.1 in
         read_only_lem w.0 (rw (w.3, le-leb 0x3C a h.0, le-leb a 0x42 h.1) refl)
 
-  -- an address that is written, other than the port, is stored
-  pub taken_stored : Refuses s a v (Ok tt) → (a ≡ fifos → ⊥) → (2 ≤ a) × (a ≤ 0x10)
-  unfolding exists is_stored
-  taken_stored taken n =
-      let p = there (exists a) (read_only a) _ (sym (write_checks s frame_room a v) ∙ taken.is frame_room (omega arith)) in
-      let is : is_stored a ≡ true = simp (p.1, ne_eqb a fifos n, or-false) at p.0 in
-      let both = (and-eq-true_iff (leb 2 a) (leb a 0x10)).0 is in
-      (leb-true 2 a both.0, leb-true a 0x10 both.1)
+    pub refused_read_only : (p ≡ Id) ⊎ (p ≡ Shown) → Refuses s a v (Err ReadOnly)
+    refused_read_only (inl k) = at_id_lem k
+    refused_read_only (inr k) = at_shown_lem k
 
 -- ---- stored registers
 
@@ -218,9 +210,13 @@ module _ (s : State) (a v : ℕ) (lo : 2 ≤ a) (hi : a ≤ 0x10) where
   quiet : tx_start a v ≡ false → sends_reset a v ≡ false → Refuses s a v (Ok tt)
   quiet p q = record { is = λ room h. register_checks room h ∙ rw (p, q) refl }
 
-  pub not_command : (a ≡ control0 → ⊥) → (a ≡ control3 → ⊥) → Refuses s a v (Ok tt)
+  no_command : (a ≡ control0 → ⊥) → (a ≡ control3 → ⊥) → Refuses s a v (Ok tt)
   unfolding tx_start sends_reset
-  not_command p q = quiet (rw (ne_eqb _ _ p) refl) (rw (ne_eqb _ _ q) refl)
+  no_command p q = quiet (rw (ne_eqb _ _ p) refl) (rw (ne_eqb _ _ q) refl)
+
+pub not_command : (s : State) (c : Cell) (v : ℕ) → (c.at ≡ 4 → ⊥) → (c.at ≡ 7 → ⊥) → Refuses s (c.at + 2) v (Ok tt)
+not_command s c v p q =
+    let less = c.among in no_command s (c.at + 2) v (omega arith) (omega arith) (λ e. p (omega arith)) (λ e. q (omega arith))
 
 -- Control0 and Control3
 module _ (d : Device) (v : ℕ) where
@@ -263,9 +259,9 @@ module _ (d : Device) (v : ℕ) where
     control0_start p q r e = at_start r false false p q (start_no_lem false (whole d) (on d) ∙ ap no_of (sym e))
 
   -- a start that is taken flushes nothing
-  pub no_flush : Refuses (view d) control0 v (Ok tt) → has TX_START v ≡ true → has TX_FLUSH v ≡ false
+  no_flush_at : Refuses (view d) control0 v (Ok tt) → has TX_START v ≡ true → has TX_FLUSH v ≡ false
   unfolding tx_start sends_reset queue_at
-  no_flush taken h =
+  no_flush_at taken h =
       go (has TX_FLUSH v) (opened (view d)) _
       (rw h at (sym (register_checks (view d) control0 v (omega arith) (omega arith) frame_room (omega arith)) ∙ taken.is frame_room (omega arith)))
     where
@@ -274,3 +270,6 @@ module _ (d : Device) (v : ℕ) where
       go false busy o e = refl
       go true true o e = cc
       go true false o e = let z : ◌≡◌ {A = Option ℕ} (some 4) none = rw spelt_nil at e in cc
+
+  pub no_flush : (c : Cell) → c.at ≡ 4 → Refuses (view d) (c.at + 2) v (Ok tt) → has TX_START v ≡ true → has TX_FLUSH v ≡ false
+  no_flush c e taken h = let a : c.at + 2 ≡ control0 = omega arith in no_flush_at (rw a at taken) h

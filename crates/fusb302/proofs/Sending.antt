@@ -6,11 +6,10 @@ use mathlib.Core.Path.{◌≡◌, refl, sym, ap, ◌∙◌}
 use mathlib.Core.Bool.{false}
 use mathlib.Core.List.{List, [], ◌∷◌, append-nil}
 use mathlib.Core.Option.{none, some}
-use Prim.Native.Nat.{ℕ, zero, suc, ◌+◌, ◌-◌, ◌<◌, ◌≤◌}
+use Prim.Native.Nat.{ℕ, ◌<◌, ◌≤◌}
 use native.Mathlib.Omega.{arith}
 use borrow.Author.Tests.{lt-ltb, le-ltb}
-use lib.ListN.{length, take, drop, length-take, length-drop, length-append}
-use lib.Seq.{take-take}
+use lib.ListN.{length}
 use Rattle.std.specs.Prelude.{Result, Ok, Err}
 use Rattle.line.specs.declared.write.WriteError.{WriteError}
 use Rattle.line.specs.declared.kind.Kind.{Kind}
@@ -23,7 +22,6 @@ use Rattle.line.specs.Write.{frame_room, wrong_length, writer_rows, wrote, lent,
 use Rattle.line.proofs.Writing.{carrying}
 use Rattle.line.proofs.Outcomes.{one_meaning_written}
 use Rattle.machine.specs.Queue.{spelt}
-use Rattle.machine.proofs.Spelling.{set_four, spelt_exactly}
 use Rattle.fusb302.specs.declared.queue.Queue.{Queue}
 use Rattle.fusb302.specs.declared.queue.Message.{Message}
 use Rattle.fusb302.specs.Queued.{queued, spelt_as}
@@ -73,42 +71,7 @@ sends_none before = record { count = refl; lent = refl }
 
 -- ---- the message of a queue
 
--- a part of a beginning that it does not leave
-within : (a n len : ℕ) (l : List ℕ) → a + n ≤ len → take n (drop a (take len l)) ≡ take n (drop a l)
-within zero n len l h = take-take n len l (omega arith)
-within (suc a) n zero l h = absurd (omega arith)
-within (suc a) n (suc len) [] h = refl
-within (suc a) n (suc len) (x ∷ l) h = within a n len l (omega arith)
-
--- its octets are as many as were counted, and all of them are in the queue
-counted : (q : List ℕ) (k n : ℕ) → spelt q ≡ some (record { kind = k; octets = take n (drop 5 q) }) → length q ≡ n + 8
-counted q k n e =
-    let s = (spelt_exactly q _).0 e in
-    let m = length-take n (drop 5 q) in
-    let d = length-drop 5 q in
-    let four = set_four s.set k s.tokens (let h = s.sop in omega arith) in
-    let long : length q ≡ length (take n (drop 5 q)) + 8 = ap length s.is ∙ simp length-append (omega arith) in
-    omega arith
-
 -- what was answered of it
-module _ (tx : Queue) (r : rust.Option Message) (is : spelt_as r (queued tx) ≡ spelt (queued tx)) where
-  module _ (m : Message) (e : r ≡ Some m) where
-    pub by_count : spelt (queued tx) ≡ some (record { kind = sop_number m.kind; octets = take m.count (drop 5 (queued tx)) })
-    by_count = sym (rw e at is)
-
-    inside : (5 + m.count ≤ tx.len) × (5 + m.count ≤ length tx.octets)
-    inside =
-        let c = counted (queued tx) (sop_number m.kind) m.count by_count in
-        let l = length-take tx.len tx.octets in
-        (omega arith, omega arith)
-
-    pub in_array : 5 + m.count ≤ length tx.octets
-    in_array = inside.1
-
-    pub spelt_in_array : spelt (queued tx) ≡ some (record { kind = sop_number m.kind; octets = take (5 + m.count - 5) (drop 5 tx.octets) })
-    spelt_in_array =
-        let less : 5 + m.count - 5 ≡ m.count = omega arith in
-        by_count ∙ ap (λ l. some (record { kind = sop_number m.kind; octets = l })) (rw less (within 5 m.count tx.len tx.octets inside.0))
-
-    pub spelt_fits : wrong_length (sop_number m.kind) (length (take (5 + m.count - 5) (drop 5 tx.octets))) ≡ false
-    spelt_fits = let s = (spelt_exactly (queued tx) _).0 spelt_in_array in fits_message _ _ s.sop s.many s.few
+module _ (tx : Queue) (r : rust.Option Message) (is : spelt_as r ≡ spelt (queued tx)) (m : Message) (e : r ≡ Some m) where
+  pub by_answer : spelt (queued tx) ≡ some (record { kind = sop_number m.kind; octets = m.octets.now })
+  by_answer = sym (rw e at is)

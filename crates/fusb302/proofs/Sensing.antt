@@ -1,15 +1,17 @@
 -- What the comparators show, from the parts of a device, and the event that gives voltages.
 -- Assumes nothing.
 use mathlib.Core.Path.{◌≡◌, refl, ap, ◌∙◌}
-use mathlib.Core.Bool.{Bool, true, false, not, beq}
-use mathlib.Core.List.{List}
-use Prim.Native.Nat.{ℕ, ◌<◌, ◌≤◌, ◌^◌}
+use mathlib.Core.Bool.{Bool, true, false, cond, not, beq}
+use mathlib.Core.List.{List, [], ◌∷◌, map}
+use Prim.Native.Nat.{ℕ, suc, ◌+◌, ◌<◌, ◌≤◌, ◌^◌}
+use native.Mathlib.Omega.{arith}
+use Rattle.std.specs.List.{filter}
 use borrow.Author.Tests.{lt-ltb, le-ltb}
 use lib.ListN.{length}
 use Rattle.line.specs.Frame.{joined}
 use Rattle.line.specs.Write.{frame_room}
 use Rattle.machine.specs.State.{raises}
-use Rattle.machine.specs.Pins.{above, levels, cc_reference, vbus_reference, measured, steps, vbus_ok_of, bc_lvl_of, comp_of, readings}
+use Rattle.machine.specs.Pins.{above, steps, readings}
 use Rattle.machine.specs.Pins as comparators
 use Rattle.machine.specs.Status.{differ, changes}
 use Rattle.machine.specs.Events.{sense}
@@ -24,6 +26,30 @@ use Rattle.fusb302.specs.Sensed.{shown_as}
 use Rattle.fusb302.specs.View.{view, Asks}
 use Rattle.fusb302.specs.Serves.{Becomes, Serves}
 use Rattle.fusb302.proofs.Serving.{serves_no, serves_yes}
+
+-- ---- thresholds counted
+
+-- those of BC_LVL, as the code holds them
+abbrev pub thresholds : List Millivolts
+thresholds = record { 0 = 200 } ∷ record { 0 = 660 } ∷ record { 0 = 1230 } ∷ []
+
+-- those of a list that a voltage is above
+pub counted : (ts : List Millivolts) (v : ℕ) → length (filter (λ (t : Millivolts). above t.0 v) ts) ≡ steps (map (λ (t : Millivolts). t.0) ts) v
+counted [] v = refl
+counted (t ∷ ts) v = go (above t.0 v) (filter (λ (u : Millivolts). above u.0 v) ts) (counted ts v)
+  where
+    go : (b : Bool) (more : List Millivolts) → length more ≡ steps (map (λ (u : Millivolts). u.0) ts) v
+        → length (cond b (t ∷ more) more) ≡ cond b 1 0 + steps (map (λ (u : Millivolts). u.0) ts) v
+    go true more e = ap suc e ∙ omega arith
+    go false more e = e ∙ omega arith
+
+pub at_most : (ts : List ℕ) (v : ℕ) → steps ts v ≤ length ts
+at_most [] v = omega arith
+at_most (t ∷ ts) v = go (above t v) (at_most ts v)
+  where
+    go : (b : Bool) → steps ts v ≤ length ts → cond b 1 0 + steps ts v ≤ suc (length ts)
+    go true h = omega arith
+    go false h = omega arith
 
 -- ---- what has changed of what is shown
 

@@ -47,7 +47,7 @@ use Rattle.fusb302.specs.Queued.{queued, spelt_as}
 use Rattle.fusb302.specs.View.{phase_of, asked, request_of, view, Asks}
 use Rattle.fusb302.specs.Serves.{if_any, Becomes, Sends, Does, Serves}
 use Rattle.fusb302.proofs.Serving.{serves_no, serves_no_in, serves_in}
-use Rattle.fusb302.proofs.Sending.{by_count}
+use Rattle.fusb302.proofs.Sending.{by_answer}
 use Rattle.fusb302.proofs.Becoming.{done, itself, and_then, silently, sending, if_sending}
 
 -- ---- failures
@@ -81,7 +81,7 @@ module _ (d t : Device) (q : Request) (before : List ℕ) where
 
 -- ---- the Soft_Reset on the kind of the message that the queue spelt
 
-module _ (d t : Device) (q : Request) (before : List ℕ) (o : rust.Option Message) (is : spelt_as o (queued d.tx) ≡ spelt (queued d.tx))
+module _ (d t : Device) (q : Request) (before : List ℕ) (o : rust.Option Message) (is : spelt_as o ≡ spelt (queued d.tx))
     (failed : Becomes (raises_a I_RETRYFAIL (shows RETRYFAIL (over (view d)))) t) (soft : q.soft ≡ true) where
   pub follows_nothing : o ≡ None → Does (message_fails q.waited (asked q) (view d)) before (done t 0) before
   follows_nothing e =
@@ -96,7 +96,7 @@ module _ (d t : Device) (q : Request) (before : List ℕ) (o : rust.Option Messa
         → Sends (soft_reset_of k (asked q) ∷ []) before c after → Does (message_fails q.waited (asked q) (view d)) before (done u c) after
     follows_on u h c after sent =
         message_soft d t q before q.waited failed soft (done u c) after
-        (rw (by_count d.tx o is m e) (sending _ u h before c after (soft_reset_of k (asked q)) sent))
+        (rw (by_answer d.tx o is m e) (sending _ u h before c after (soft_reset_of k (asked q)) sent))
 
 -- ---- a wait that ran out
 

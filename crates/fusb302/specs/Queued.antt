@@ -1,7 +1,7 @@
 -- The transmit queue as it lies in memory, and the octets that it holds.
 -- Assumes nothing.
 use Rattle.std.specs.Prelude as rust
-use Rattle.std.specs.Prelude.{Some, None, ◌≡◌, cond, List, map, ℕ, ◌≤◌, ltb, length, take, drop}
+use Rattle.std.specs.Prelude.{Some, None, ◌≡◌, cond, List, map, ℕ, ◌≤◌, ltb, length, take}
 use Rattle.std.proofs.Math.Option.{Option, none, some}
 use Rattle.line.specs.declared.kind.SopKind.{SopKind}
 use Rattle.line.specs.Numbered.{sop_number}
@@ -21,10 +21,10 @@ pub record Kept (q : Queue) : Type 0 where
   pub room : q.len ≤ tx_room
   pub left : q.left ≡ to_come 0 (queued q)
 
--- the frame that an answer means of a queue's octets
-abbrev pub spelt_as : rust.Option Message → List ℕ → Option Frame
-spelt_as (Some m) l = some (record { kind = sop_number m.kind; octets = take m.count (drop 5 l) })
-spelt_as None l = none
+-- the frame that an answer means
+abbrev pub spelt_as : rust.Option Message → Option Frame
+spelt_as (Some m) = some (record { kind = sop_number m.kind; octets = m.octets.now })
+spelt_as None = none
 
 -- an SOP kind by its number, or none
 abbrev pub sop_kind : rust.Option SopKind → Option ℕ

@@ -3,6 +3,7 @@
 use Rattle.std.specs.Prelude.{◌≡◌, Bool, cond, List, [], ◌∷◌, ◌++◌, ℕ, ◌≤◌, length, drop, ⊤, Some, None, Result, Ok, Err}
 use Rattle.std.specs.Prelude as std
 use Rattle.std.proofs.Math.Option.{Option, none, some}
+use Rattle.std.specs.Array.{IsFirstChunk}
 use Rattle.line.specs.Frame.{Frame, joined}
 use Rattle.line.specs.Write.{frame_room}
 use Rattle.machine.specs.Registers.{fifos}
@@ -74,6 +75,12 @@ pub record Serves (e : Event) (d : Device) (before : List ℕ) (r : Outcome) (af
 -- the same of a read of 43, room for a frame being lent
 pub record PortRead (d : Device) (r : Outcome) : Type 0 where
   pub serves : (before : List ℕ) → frame_room ≤ length before → Serves (events.read (length before) fifos) d before r before
+
+-- the same of a write of v at a, which is given only the room for a frame that begins what is lent
+pub record WriteServed (a v : ℕ) (d : Device) (frame : List ℕ) (r : Outcome) (after : List ℕ) : Type 0 where
+  pub serves :
+      (lent : List ℕ) → IsFirstChunk lent frame frame_room
+      → Serves (events.write (length lent) a v) d lent r (after ++ drop frame_room lent)
 
 -- ---- what a write is refused with
 

@@ -5,7 +5,7 @@ ghost use Rattle.machine.specs.Status.{flag};
 ghost use Rattle.machine.specs.Requests.{driver_on, retries_of};
 ghost use Rattle.fusb302.specs.Places.{Placed};
 
-use crate::device::Device;
+use crate::device::{Cell, Device};
 
 // Switches0
 pub(crate) const MEAS_CC2: u8 = 0x08;
@@ -124,7 +124,11 @@ pub(crate) const I_ALERT: u8 = 0x08;
 
 pub(crate) const I_BC_LVL: u8 = 0x01;
 
+// Data sheet 004, 'Device ID': what stands there.
+pub(crate) const DEVICE_ID: u8 = 0x91;
+
 // Registers by their place among the cells: address less 2.
+// Numbers and no enum, since each is an index of `cells`, and `Refuses` and `WriteServed` speak of addresses.
 pub(crate) const SWITCHES0: usize = 0;
 
 pub(crate) const SWITCHES1: usize = 1;
@@ -141,6 +145,8 @@ pub(crate) const MASK: usize = 8;
 
 pub(crate) const POWER: usize = 9;
 
+pub(crate) const RESET: usize = 10;
+
 pub(crate) const MASKA: usize = 12;
 
 pub(crate) const MASKB: usize = 13;
@@ -149,7 +155,7 @@ pub(crate) const MASKB: usize = 13;
 #[derive(Clone, Copy)]
 pub(crate) enum Place {
     Id,
-    Stored,
+    Stored(Cell),
     Shown,
     Port,
 }
@@ -175,7 +181,9 @@ pub(crate) fn place_of(address: u8) -> Option<Place>
         | 0x0D
         | 0x0E
         | 0x0F
-        | 0x10 => Some(Place::Stored),
+        | 0x10 => Some(Place::Stored(Cell {
+            at: usize::from(address - 2),
+        })),
         0x3C..=0x42 => Some(Place::Shown),
         0x43 => Some(Place::Port),
         _ => None,
@@ -183,11 +191,10 @@ pub(crate) fn place_of(address: u8) -> Option<Place>
 }
 
 // The bits of a register that are stored.
-pub(crate) fn stored_bits(address: u8) -> u8
-    requires { (2 ≤ address) × (address ≤ 0x10) }
-    ensures { result ≡ get_or stored_bits (address - 2) 0 }
+pub(crate) fn stored_bits(cell: Cell) -> u8
+    ensures { result ≡ get_or stored_bits cell.at 0 }
 {
-    let (_, stored) = Device::REGISTERS[(address - 2) as usize];
+    let (_, stored) = Device::REGISTERS[cell.at];
     stored
 }
 

@@ -1,5 +1,5 @@
 // The device: registers, both FIFOs, interrupts, the request that is open, and the voltages on its pins.
-ghost use Rattle.std.specs.Prelude.{◌≡◌, Some, None, Ok, Err, length};
+ghost use Rattle.std.specs.Prelude.{◌≡◌, ◌<◌, Some, None, Ok, Err, length};
 ghost use Rattle.std.proofs.Math.Option.{some};
 ghost use Rattle.machine.specs.Registers.{resets};
 ghost use Rattle.machine.specs.Status.{cleared_at};
@@ -8,19 +8,19 @@ ghost use Rattle.machine.specs.Requests.{fail_bits, over};
 
 use crate::bits::{RETRYFAIL, SOFTFAIL};
 use crate::fifo::Fifo;
-use crate::pins::{Millivolts, Pins};
+use crate::pins::Pins;
 use crate::queue::Queue;
 use crate::refusals::No;
 use line::kind::SopKind;
 
-#[derive(Clone, Copy)]
+#[derive(Clone, Copy, Default)]
 pub struct Status {
     pub(crate) status0a: u8,
     pub(crate) crc_chk: bool,
     pub(crate) kind: Option<SopKind>,
 }
 
-#[derive(Clone, Copy)]
+#[derive(Clone, Copy, Default)]
 pub struct Ints {
     pub(crate) a: u8,
     pub(crate) b: u8,
@@ -39,7 +39,7 @@ pub struct Request {
     pub(crate) waited: u16,
 }
 
-// `Good` is no ghost field: between two steps of one event it need not hold, so that methods ask for `Asks`.
+// `Good` is no ghost field: between two steps of one event it need not hold. Methods ask for `Asks`, and thm `EveryCallAllowed` (lives) says that the device of every life meets it.
 #[derive(Clone, Copy)]
 pub struct Device {
     pub(crate) cells: [u8; Device::REGISTERS.len()],
@@ -50,6 +50,13 @@ pub struct Device {
     pub(crate) request: Option<Request>,
     pub(crate) pins: Pins,
     ghost registers: { length cells ≡ 15 },
+}
+
+// A register that is stored, by its place among the cells.
+#[derive(Clone, Copy)]
+pub(crate) struct Cell {
+    pub(crate) at: usize,
+    ghost among: { at < 15 },
 }
 
 // Nothing or the octet that was read; or why the event is refused.
@@ -69,17 +76,14 @@ impl Status {
     pub(crate) fn cleared() -> Status
         ensures { status_of result ≡ cleared }
     {
-        Status {
-            status0a: 0,
-            crc_chk: false,
-            kind: None,
-        }
+        Status::default()
     }
 }
 
 impl Ints {
     ghost use Rattle.fusb302.specs.View.{ints_of};
 
+    // By the address, as `shown` (reads.rt): `cleared_at` takes it.
     #[tactic(auto, unfolding(machine::specs::Status::cleared_at))]
     pub(crate) fn cleared(mut self, address: u8) -> Ints
         ensures { ints_of result ≡ cleared_at address (ints_of self) }
@@ -132,17 +136,9 @@ impl Device {
             tx: Queue::empty(),
             rx: Fifo::empty(),
             status: Status::cleared(),
-            ints: Ints {
-                a: 0,
-                b: 0,
-                main: 0,
-            },
+            ints: Ints::default(),
             request: None,
-            pins: Pins {
-                cc1: Millivolts(0),
-                cc2: Millivolts(0),
-                vbus: Millivolts(0),
-            },
+            pins: Pins::default(),
         }
     }
 
@@ -178,9 +174,9 @@ impl Device {
         }
     }
 
-    // ---- a part replaced, as the machine's State replaces it; three interrupt registers have one each, as there
+    // ---- a part replaced, as the machine's State replaces it
 
-    // A request, or none, is over and the queue empty.
+    // No request is open, and the queue is empty.
     pub(crate) fn over(mut self) -> Device
         ensures { Becomes (over (view self)) result }
     {
@@ -211,6 +207,8 @@ impl Device {
         self.status.status0a &= !(SOFTFAIL | RETRYFAIL);
         self
     }
+
+    // `raises_a`, `raises_b` and `raises` are the machine's names in the contracts; one method with a closure that picks the register is longer.
 
     // Bits set in 3E, whatever masks say.
     pub(crate) fn raises_a(mut self, bits: u8) -> Device

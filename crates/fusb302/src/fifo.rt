@@ -11,7 +11,7 @@ pub struct Fifo {
 }
 
 impl Fifo {
-    ghost use Rattle.std.specs.Prelude.{[], ◌∷◌, ◌++◌, suc, ◌+◌, ◌<◌, drop, get_or};
+    ghost use Rattle.std.specs.Prelude.{[], ◌∷◌, ◌++◌, suc, ◌+◌, MatchOption};
     ghost use Rattle.fusb302.specs.Held.{held};
 
     pub(crate) const CAPACITY: usize = 80;
@@ -38,21 +38,16 @@ impl Fifo {
         self
     }
 
-    // The oldest octet.
-    pub(crate) fn first(self) -> u8
-        requires { 0 < self.len }
-        ensures { result ≡ get_or (held self) 0 0 }
+    // The oldest octet, if one is held, and what is held without it.
+    pub(crate) fn pop(mut self) -> Option<(u8, Fifo)>
+        ensures { MatchOption result (held self ≡ []) (λ p. held self ≡ p.0 ∷ held p.1) }
     {
-        self.octets[0]
-    }
-
-    // All but the oldest octet.
-    pub(crate) fn rest(mut self) -> Fifo
-        requires { 0 < self.len }
-        ensures { held result ≡ drop 1 (held self) }
-    {
+        if self.len == 0 {
+            return None;
+        }
+        let octet = self.octets[0];
         self.octets.rotate_left(1);
         self.len -= 1;
-        self
+        Some((octet, self))
     }
 }

@@ -1,10 +1,12 @@
 // Control messages that the device builds, and the packets that it hears (01, 'Line code (PD)', header).
 ghost use Rattle.std.specs.Prelude.{◌≡◌, ◌≤◌, ◌<◌, length};
 ghost use Rattle.line.specs.Numbered.{sop_number};
+ghost use Rattle.line.specs.Reader.{octet_room};
 ghost use Rattle.machine.specs.Headers.{heard_header, message_id, is_control};
 
 use crate::refusals::No;
 use line::kind::SopKind;
+use line::read::OCTET_ROOM;
 
 // The control messages that the device sends or looks for.
 #[derive(Clone, Copy)]
@@ -40,13 +42,13 @@ impl Control {
     ghost use Rattle.machine.specs.Headers.{header};
     ghost use Rattle.fusb302.specs.Messages.{type_number, frame_of};
 
-    // Both roles are 0 on kinds 1 to 4, and the count is 0.
+    // Both roles are 0 on every kind but SOP, and the count is 0.
     #[tactic(auto, using(crate::proofs::Octets::on_sop, crate::proofs::Octets::elsewhere, crate::proofs::Octets::four_bits))]
     fn header(self) -> u16
         ensures { result ≡ header (type_number self.message) (sop_number self.kind) self.switches1 self.id }
     {
-        let sw = self.switches1 as u16;
-        let common = (((sw >> 5) & 3) << 6) | ((self.id as u16) << 9) | u16::from(self.message);
+        let sw = u16::from(self.switches1);
+        let common = (((sw >> 5) & 3) << 6) | (u16::from(self.id) << 9) | u16::from(self.message);
         if self.kind == SopKind::Sop {
             return (((sw >> 4) & 1) << 5) | (((sw >> 7) & 1) << 8) | common;
         }
@@ -62,11 +64,20 @@ impl Control {
     }
 }
 
-// MessageID of a header: bits 11:9.
-pub(crate) fn message_id(header: [u8; 2]) -> u8
-    ensures { (result ≡ message_id header) × (result < 8) }
+// The header that octets begin with, low octet first.
+fn heard(octets: &[u8]) -> u16
+    requires { 2 ≤ length octets.now }
+    ensures { result ≡ heard_header octets.now }
 {
-    ((u16::from_le_bytes(header) >> 9) & 7) as u8
+    u16::from_le_bytes([octets[0], octets[1]])
+}
+
+// MessageID of a header: bits 11:9, for which `as` needs no `unwrap`.
+pub(crate) fn message_id(octets: &[u8]) -> u8
+    requires { 2 ≤ length octets.now }
+    ensures { (result ≡ message_id octets.now) × (result < 8) }
+{
+    ((heard(octets) >> 9) & 7) as u8
 }
 
 // A packet heard: its kind, and its octets, of which the last four are the CRC.
@@ -75,7 +86,7 @@ pub(crate) struct Packet<'a> {
     pub(crate) kind: SopKind,
     pub(crate) octets: &'a [u8],
     ghost least: { 6 ≤ length octets.now },
-    ghost most: { length octets.now ≤ 34 },
+    ghost most: { length octets.now ≤ octet_room },
 }
 
 impl<'a> Packet<'a> {
@@ -87,25 +98,17 @@ impl<'a> Packet<'a> {
     pub(crate) fn new(kind: u32, octets: &'a [u8]) -> Result<Packet<'a>, No>
         ensures { Takes kind octets.entry result }
     {
-        let Ok(kind) = SopKind::try_from(kind) else {
-            return Err(No::NoSuchKind);
-        };
-        if octets.len() < 6 || 34 < octets.len() {
+        let kind = SopKind::try_from(kind)?;
+        if octets.len() < 6 || OCTET_ROOM < octets.len() {
             return Err(No::WrongLength);
         }
         Ok(Packet { kind, octets })
     }
 
-    fn header(self) -> [u8; 2]
-        ensures { heard_header result ≡ heard_header self.entry.octets.now }
-    {
-        [self.octets[0], self.octets[1]]
-    }
-
     pub(crate) fn message_id(self) -> u8
         ensures { (result ≡ message_id self.entry.octets.now) × (result < 8) }
     {
-        message_id(self.header())
+        message_id(self.octets)
     }
 
     // Whether it is a control message of a type: bits 3:0, no data objects (14:12), two octets and the CRC's four.
@@ -116,7 +119,7 @@ impl<'a> Packet<'a> {
         if self.octets.len() != 6 {
             return false;
         }
-        let header = u16::from_le_bytes(self.header());
+        let header = heard(self.octets);
         header & 15 == u16::from(message) && (header >> 12) & 7 == 0
     }
 

@@ -66,8 +66,7 @@ impl Device {
         let Some(message) = self.tx.message() else {
             return false;
         };
-        let id = message_id([self.tx.octets[5], self.tx.octets[6]]);
-        packet.answers(message.kind, id)
+        packet.answers(message.kind, message_id(message.octets))
     }
 
     // CRC_CHK and I_CRC_CHK.
@@ -116,6 +115,14 @@ impl Device {
             && driver_on(self.cells[SWITCHES1])
     }
 
+    // Whether Rx has room for a packet behind its token.
+    #[tactic(auto, using(crate::proofs::Showing::held_length))]
+    pub(crate) fn fits(self, packet: Packet) -> bool
+        ensures { result ≡ fits_rx packet.entry.octets.now (view self) }
+    {
+        self.rx.len + 1 + packet.octets.len() <= Fifo::CAPACITY
+    }
+
     // Token and octets go to Rx, which they may make full.
     fn keep(mut self, packet: Packet) -> Device
         requires { fits_rx packet.octets.now (view self) ≡ true }
@@ -153,7 +160,7 @@ impl Device {
         ensures { Does (accepts (sop_number packet.entry.kind) packet.entry.octets.now (view self)) frame.old result frame.new }
     {
         let noted = self.noted(packet);
-        if noted.rx.len + 1 + packet.octets.len() <= Fifo::CAPACITY {
+        if noted.fits(packet) {
             return noted.store(packet, frame);
         }
         noted.raises(I_ALERT).done(0)

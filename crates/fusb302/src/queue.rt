@@ -27,7 +27,7 @@ const SETS: [([u8; 4], SopKind); 5] = [
 // How many data octets a token announces, if it announces any.
 #[tactic(auto, unfolding(machine::specs::Queue::announced))]
 fn announced(token: u8) -> Option<u8>
-    ensures { MatchOption result (announced token ≡ 0) (λ n. (n ≡ announced token) × (0 < n)) }
+    ensures { MatchOption result (announced token ≡ 0) (λ n. (n ≡ announced token) × (2 ≤ n) × (n ≤ 30)) }
 {
     match token {
         0x82..=0x9E => Some(token - 0x80),
@@ -46,7 +46,8 @@ pub(crate) fn is_token(octet: u8) -> bool
 }
 
 // The octets written and not yet sent, and how many data octets of a counted block are still to come.
-// An array and a length, for the reason that a Fifo is one.
+// An array and a length, since a device is Copy and asks for no heap.
+// A type apart from Fifo: that takes packets and is read from its front, this takes octets and counts a block, and beyond their room both share only `empty`.
 #[derive(Clone, Copy)]
 pub struct Queue {
     pub(crate) octets: [u8; Queue::CAPACITY],
@@ -57,11 +58,13 @@ pub struct Queue {
     ghost counted: { left ≡ to_come 0 (take len octets) },
 }
 
-// The message that a queue spells: its kind and the number of its octets.
+// The message that a queue spells: its kind and its octets.
 #[derive(Clone, Copy)]
-pub(crate) struct Message {
+pub(crate) struct Message<'a> {
     pub(crate) kind: SopKind,
-    pub(crate) count: usize,
+    pub(crate) octets: &'a [u8],
+    ghost least: { 2 ≤ length octets.now },
+    ghost most: { length octets.now ≤ 30 },
 }
 
 impl Queue {
@@ -105,17 +108,18 @@ impl Queue {
             .map(|(_, kind)| *kind)
     }
 
-    #[tactic(auto, using(crate::proofs::Queueing::spelt_uncounted, crate::proofs::Queueing::spelt_misfit, crate::proofs::Queueing::spelt_unset, crate::proofs::Queueing::spelt_set))]
-    pub(crate) fn message(self) -> Option<Message>
-        ensures { spelt_as result (queued self) ≡ spelt (queued self) }
+    #[tactic(auto, using(crate::proofs::Queueing::spelt_uncounted, crate::proofs::Queueing::spelt_misfit, crate::proofs::Queueing::spelt_unset))]
+    pub(crate) fn message(&self) -> Option<Message<'_>>
+        ensures { spelt_as result ≡ spelt (queued self.now) }
     {
-        let count = announced(self.octets[4])? as usize;
+        let count = usize::from(announced(self.octets[4])?);
         if self.len != count + 8 {
             return None;
         }
         let kind = self.kind()?;
+        let octets = &self.octets[5..5 + count];
         self.octets[..self.len]
             .ends_with(&CLOSING)
-            .then_some(Message { kind, count })
+            .then_some(Message { kind, octets })
     }
 }

@@ -6,8 +6,9 @@ ghost use Rattle.fusb302.specs.View.{view, Asks, Level};
 ghost use Rattle.fusb302.specs.Serves.{Serves, PortRead};
 
 use crate::bits::{
-    ALERT, COMP, CONTROL0, CRC_CHK, INT_MASK, MASK, MASKA, MASKB, Place, RX_EMPTY, RX_FULL, RXSOP,
-    RXSOP1, RXSOP1DB, RXSOP2, RXSOP2DB, TX_EMPTY, TX_FULL, VBUSOK, flag, has, place_of,
+    ALERT, COMP, CONTROL0, CRC_CHK, DEVICE_ID, INT_MASK, MASK, MASKA, MASKB, Place, RX_EMPTY,
+    RX_FULL, RXSOP, RXSOP1, RXSOP1DB, RXSOP2, RXSOP2DB, TX_EMPTY, TX_FULL, VBUSOK, flag, has,
+    place_of,
 };
 use crate::device::{Device, Outcome};
 use crate::fifo::Fifo;
@@ -73,6 +74,7 @@ impl Device {
             + flag(TX_FULL, self.tx.len == Queue::CAPACITY)
     }
 
+    // By the address: `place_of` has one range for what is shown, since 01 names that form.
     fn shown(self, address: u8) -> u8
         requires { (0x3C ≤ address) × (address ≤ 0x42) }
         ensures { result ≡ get_or (shown (view self)) (address - 0x3C) 0 }
@@ -107,15 +109,14 @@ impl Device {
         requires { Asks self }
         ensures { PortRead self result }
     {
-        if self.rx.len == 0 {
+        let Some((octet, rest)) = self.rx.pop() else {
             return self.refuse(No::NothingHeld);
-        }
-        let octet = self.rx.first();
-        self.rx = self.rx.rest();
+        };
+        self.rx = rest;
         self.give(octet)
     }
 
-    #[tactic(auto, using(crate::proofs::Answering::is_stored_lem, crate::proofs::Answering::is_shown, crate::proofs::Answering::is_nowhere, crate::proofs::Answering::read_small, crate::proofs::Answering::read_nowhere, crate::proofs::Answering::read_id, crate::proofs::Answering::read_stored, crate::proofs::Answering::read_at_port))]
+    #[tactic(auto, using(crate::proofs::Answering::is_shown, crate::proofs::Answering::is_nowhere, crate::proofs::Answering::read_small, crate::proofs::Answering::read_nowhere, crate::proofs::Answering::read_id, crate::proofs::Answering::read_stored, crate::proofs::Answering::read_at_port))]
     pub fn read(mut self, address: u8, symbols: &mut [u8]) -> Outcome
         requires { Asks self }
         ensures { Serves (read (length symbols.old) address) self symbols.old result symbols.new }
@@ -127,8 +128,8 @@ impl Device {
             return self.refuse(No::NoSuchAddress);
         };
         match place {
-            Place::Id => self.give(0x91),
-            Place::Stored => self.give(self.cells[(address - 2) as usize]),
+            Place::Id => self.give(DEVICE_ID),
+            Place::Stored(cell) => self.give(self.cells[cell.at]),
             Place::Shown => {
                 let octet = self.shown(address);
                 self.ints = self.ints.cleared(address);

@@ -1,6 +1,9 @@
 // Why an event is refused, and the number of each reason (01, 'Numbers of no').
 ghost use Rattle.std.specs.Prelude.{◌≡◌};
 ghost use Rattle.fusb302.specs.Refusals.{number_of};
+ghost use Rattle.fusb302.specs.declared.refusals.No.TheVariants.{NoSuchKind};
+
+use line::kind::UnknownKind;
 
 // In the order in which an event is tried for them.
 #[derive(Clone, Copy, Debug, PartialEq, Eq)]
@@ -27,6 +30,14 @@ pub enum No {
     WrongLength,
     // More than 1,000 microseconds at once.
     TimeTooLong,
+}
+
+impl From<UnknownKind> for No {
+    ghost from_gives = { λ _ no. no ≡ NoSuchKind };
+
+    fn from(_: UnknownKind) -> Self {
+        No::NoSuchKind
+    }
 }
 
 impl From<No> for u8 {

@@ -103,7 +103,7 @@ impl Device {
         failed.requests(request).done(count)
     }
 
-    // A wait ran out: what was in flight is sent again, or fails. The request's wait is the next one's.
+    // A wait ran out: what was in flight is sent again, or fails. `request.waited` already counts the wait that follows.
     fn expire(self, mut request: Request, frame: &mut [u8; FRAME_ROOM]) -> Outcome
         ensures { Does (expires request.waited (asked request) (view self)) frame.old result frame.new }
     {
@@ -133,8 +133,9 @@ impl Device {
         let Some(mut request) = self.request else {
             return self.done(0);
         };
-        let waited = request.waited as u32 + microseconds;
+        let waited = u32::from(request.waited) + microseconds;
         if waited < WAIT {
+            // `as`, since the value fits: `try_from` would add an `unwrap`.
             request.waited = waited as u16;
             return self.requests(request).done(0);
         }
@@ -151,7 +152,6 @@ impl Device {
         if symbols.len() < FRAME_ROOM {
             return self.refuse(No::SmallBuffer);
         }
-        let heard = self.over().shows(HARDRST).raises_a(I_HARDRST);
-        heard.done(0)
+        self.over().shows(HARDRST).raises_a(I_HARDRST).done(0)
     }
 }

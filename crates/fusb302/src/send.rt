@@ -12,7 +12,7 @@ use crate::queue::Queue;
 use line::kind::Kind;
 use line::write::{FRAME_ROOM, write_frame};
 
-// Writes a frame of as many octets as one of its kind has; the number of its symbols.
+// Writes a frame of as many octets as one of its kind has; the number of its symbols. `write_frame` takes any number (`Writes`), so a kind is given by its number.
 pub(crate) fn put(kind: Kind, octets: &[u8], frame: &mut [u8; FRAME_ROOM]) -> usize
     requires { wrong_length (kind_number kind) (length octets.now) ≡ false }
     ensures { Sends (record { kind = kind_number kind; octets = octets.now } ∷ []) frame.old result frame.new }
@@ -29,13 +29,12 @@ pub(crate) fn put_control(control: Control, frame: &mut [u8; FRAME_ROOM]) -> usi
 }
 
 // Writes the message that a queue spells, if it spells one.
-#[tactic(auto, using(crate::proofs::Sending::in_array, crate::proofs::Sending::spelt_in_array, crate::proofs::Sending::spelt_fits))]
+#[tactic(auto, using(crate::proofs::Sending::by_answer, crate::proofs::Sending::fits_message, crate::proofs::Queueing::sop_below))]
 pub(crate) fn put_message(tx: Queue, frame: &mut [u8; FRAME_ROOM]) -> usize
     ensures { Sends (if_any (spelt (queued tx))) frame.old result frame.new }
 {
     let Some(message) = tx.message() else {
         return 0;
     };
-    let end = 5 + message.count;
-    put(Kind::Message(message.kind), &tx.octets[5..end], frame)
+    put(Kind::Message(message.kind), message.octets, frame)
 }

@@ -5,12 +5,11 @@ ghost use Rattle.fusb302.specs.Why.{Explains, ExplainsHeard};
 
 use crate::bits::{AUTO_CRC, AUTO_PRE, CONTROL0, SWITCHES1, driver_on, has};
 use crate::device::Device;
-use crate::fifo::Fifo;
 use crate::header::{ControlMessage, Packet};
 use crate::refusals::No;
 use line::crc::right;
 
-// The first reason why no reply leaves for a packet, or that one does. `Leaves` is one of the ten answers that 02 names, and no lack of one.
+// The first reason why no reply leaves for a packet, or `Leaves`: an answer as the others are, since `Explains` and `TrueOfEvent` speak of each.
 #[derive(Clone, Copy)]
 pub enum Why {
     Refused(No),
@@ -26,7 +25,7 @@ pub enum Why {
 
 impl Device {
     // Of a packet that is not refused.
-    #[tactic(auto, using(crate::proofs::Hearing::has_room, crate::proofs::Hearing::no_room_lem), unfolding(machine::specs::Why::first_cause, machine::specs::Registers::cell))]
+    #[tactic(auto, unfolding(machine::specs::Why::first_cause, machine::specs::Registers::cell))]
     fn why_heard(self, packet: Packet) -> Why
         ensures { ExplainsHeard self (sop_number packet.entry.kind) packet.entry.octets.now result }
     {
@@ -36,7 +35,7 @@ impl Device {
         if !right(packet.octets) {
             return Why::CrcWrong;
         }
-        if Fifo::CAPACITY < self.rx.len + 1 + packet.octets.len() {
+        if !self.fits(packet) {
             return Why::NoRoom;
         }
         if packet.is_control(ControlMessage::GoodCrc) {

@@ -1,5 +1,5 @@
 // Writes: what refuses one, and what one does (01, 'Registers', 'The transmit queue', 'Numbers of no').
-ghost use Rattle.std.specs.Prelude.{◌≡◌, true, false, not, ◌&&◌, ◌≤◌, ◌<◌, leb, eqb, length, Ok};
+ghost use Rattle.std.specs.Prelude.{◌≡◌, true, false, not, ◌&&◌, ◌+◌, ◌<◌, leb, eqb, length, Ok};
 ghost use Rattle.machine.specs.Status.{tx_room};
 ghost use Rattle.machine.specs.Registers.{control0, control3, fifos, has, TX_FLUSH, TX_START};
 ghost use Rattle.machine.specs.Queue.{START, is_message, is_token};
@@ -8,13 +8,13 @@ ghost use Rattle.machine.specs.Events.{write};
 ghost use Rattle.machine.specs.Step.{restored, pd_reset, queues, control0_written, control1_written, control3_written, reset_written, port_written, written};
 ghost use Rattle.fusb302.specs.Queued.{queued};
 ghost use Rattle.fusb302.specs.View.{view, Asks};
-ghost use Rattle.fusb302.specs.Serves.{Becomes, Does, DoesQuietly, Serves, Refuses, sending_no, start_no, storing_no};
+ghost use Rattle.fusb302.specs.Serves.{Becomes, Does, DoesQuietly, Serves, WriteServed, Refuses, sending_no, start_no, storing_no};
 
 use crate::bits::{
-    I_ALERT, I_HARDSENT, PD_RESET, Place, RX_FLUSH, SEND_HARD_RESET, SW_RES, SWITCHES1, TX_FLUSH,
-    TX_START, driver_on, has, place_of, stored_bits,
+    CONTROL0, CONTROL1, CONTROL3, I_ALERT, I_HARDSENT, PD_RESET, Place, RESET, RX_FLUSH,
+    SEND_HARD_RESET, SW_RES, SWITCHES1, TX_FLUSH, TX_START, driver_on, has, place_of, stored_bits,
 };
-use crate::device::{Device, Outcome, Status};
+use crate::device::{Cell, Device, Outcome, Status};
 use crate::fifo::Fifo;
 use crate::queue::{Queue, START, is_token};
 use crate::refusals::No;
@@ -108,29 +108,13 @@ impl Device {
     }
 
     #[tactic(auto, using(crate::proofs::Refusing::not_command))]
-    fn may_write_register(self, address: u8, value: u8) -> Result<(), No>
-        requires { (2 ≤ address) × (address ≤ 0x10) }
-        ensures { Refuses (view self) address value result }
+    fn may_write_register(self, cell: Cell, value: u8) -> Result<(), No>
+        ensures { Refuses (view self) (cell.at + 2) value result }
     {
-        match address {
-            0x06 => self.may_write_control0(value),
-            0x09 => self.may_write_control3(value),
+        match cell.at {
+            CONTROL0 => self.may_write_control0(value),
+            CONTROL3 => self.may_write_control3(value),
             _ => Ok(()),
-        }
-    }
-
-    #[tactic(auto, using(crate::proofs::Answering::is_stored_lem, crate::proofs::Answering::is_port, crate::proofs::Answering::is_nowhere, crate::proofs::Refusing::write_id, crate::proofs::Refusing::write_shown, crate::proofs::Refusing::write_nowhere))]
-    fn may_write(self, address: u8, value: u8) -> Result<(), No>
-        ensures { Refuses (view self) address value result }
-    {
-        let Some(place) = place_of(address) else {
-            return Err(No::NoSuchAddress);
-        };
-        match place {
-            Place::Id => Err(No::ReadOnly),
-            Place::Stored => self.may_write_register(address, value),
-            Place::Shown => Err(No::ReadOnly),
-            Place::Port => self.may_write_port(value),
         }
     }
 
@@ -151,13 +135,13 @@ impl Device {
 
     #[tactic(auto, using(crate::proofs::Refusing::port_start_is, crate::proofs::Refusing::port_room), unfolding(machine::specs::Step::port_written, line::specs::Frame::joined))]
     fn port_written(self, octet: u8, frame: &mut [u8; FRAME_ROOM]) -> Outcome
-        requires { Asks self × Refuses (view self) fifos octet (Ok tt) }
+        requires { Refuses (view self) fifos octet (Ok tt) }
         ensures { Does (port_written octet (view self)) frame.old result frame.new }
     {
-        if is_start(self.tx.left, octet) {
-            return self.begin(frame);
+        if !is_start(self.tx.left, octet) {
+            return self.queue(octet).done(0);
         }
-        self.queue(octet).done(0)
+        self.begin(frame)
     }
 
     #[tactic(auto, unfolding(machine::specs::Step::control0_written, line::specs::Frame::joined))]
@@ -229,27 +213,48 @@ impl Device {
         self.done(0)
     }
 
-    #[tactic(auto, using(crate::proofs::Refusing::taken_stored, crate::proofs::Refusing::no_flush, machine::proofs::Comparing::port_written_lem, crate::proofs::Writing::is_control0, crate::proofs::Writing::is_control1, crate::proofs::Writing::is_control3, crate::proofs::Writing::is_reset, crate::proofs::Writing::is_plain), unfolding(machine::specs::Registers::stored, line::specs::Frame::joined))]
-    fn write_taken(mut self, address: u8, value: u8, frame: &mut [u8; FRAME_ROOM]) -> Outcome
-        requires { Asks self × Refuses (view self) address value (Ok tt) }
-        ensures { Does (written address value (view self)) frame.old result frame.new }
+    #[tactic(auto, using(crate::proofs::Refusing::no_flush, crate::proofs::Writing::is_control0, crate::proofs::Writing::is_control1, crate::proofs::Writing::is_control3, crate::proofs::Writing::is_reset, crate::proofs::Writing::is_plain), unfolding(line::specs::Frame::joined))]
+    fn register_written(mut self, cell: Cell, value: u8, frame: &mut [u8; FRAME_ROOM]) -> Outcome
+        requires { Refuses (view self) (cell.at + 2) value (Ok tt) }
+        ensures { Does (written (cell.at + 2) value (view self)) frame.old result frame.new }
     {
-        if address == 0x43 {
-            return self.port_written(value, frame);
-        }
         let before = self.readings();
-        self.cells[(address - 2) as usize] = value & stored_bits(address);
-        match address {
-            0x06 => self.control0_written(value, frame),
-            0x07 => self.control1_written(value),
-            0x09 => self.control3_written(value, frame),
-            0x0C => self.reset_written(value),
+        self.cells[cell.at] = value & stored_bits(cell);
+        match cell.at {
+            CONTROL0 => self.control0_written(value, frame),
+            CONTROL1 => self.control1_written(value),
+            CONTROL3 => self.control3_written(value, frame),
+            RESET => self.reset_written(value),
             _ => self.reports(before).done(0),
         }
     }
 
+    // ---- a write
+
+    #[tactic(auto, using(crate::proofs::Writing::write_refused, crate::proofs::Writing::write_taken))]
+    fn write_register(self, cell: Cell, value: u8, frame: &mut [u8; FRAME_ROOM]) -> Outcome
+        requires { Asks self }
+        ensures { WriteServed (cell.at + 2) value self frame.old result frame.new }
+    {
+        match self.may_write_register(cell, value) {
+            Ok(()) => self.register_written(cell, value, frame),
+            Err(no) => self.refuse(no),
+        }
+    }
+
+    #[tactic(auto, using(crate::proofs::Writing::write_refused, crate::proofs::Writing::write_taken, machine::proofs::Comparing::port_written_lem))]
+    fn write_port(self, octet: u8, frame: &mut [u8; FRAME_ROOM]) -> Outcome
+        requires { Asks self }
+        ensures { WriteServed fifos octet self frame.old result frame.new }
+    {
+        match self.may_write_port(octet) {
+            Ok(()) => self.port_written(octet, frame),
+            Err(no) => self.refuse(no),
+        }
+    }
+
     // Writes a register or the port.
-    #[tactic(auto, using(crate::proofs::Writing::write_small, crate::proofs::Writing::write_refused))]
+    #[tactic(auto, using(crate::proofs::Writing::write_small, crate::proofs::Writing::write_nowhere, crate::proofs::Writing::write_read_only))]
     pub fn write(mut self, address: u8, value: u8, symbols: &mut [u8]) -> Outcome
         requires { Asks self }
         ensures { Serves (write (length symbols.old) address value) self symbols.old result symbols.new }
@@ -257,9 +262,13 @@ impl Device {
         let Some(frame) = symbols.first_chunk_mut::<FRAME_ROOM>() else {
             return self.refuse(No::SmallBuffer);
         };
-        match self.may_write(address, value) {
-            Ok(()) => self.write_taken(address, value, frame),
-            Err(no) => self.refuse(no),
+        let Some(place) = place_of(address) else {
+            return self.refuse(No::NoSuchAddress);
+        };
+        match place {
+            Place::Id | Place::Shown => self.refuse(No::ReadOnly),
+            Place::Stored(cell) => self.write_register(cell, value, frame),
+            Place::Port => self.write_port(value, frame),
         }
     }
 }

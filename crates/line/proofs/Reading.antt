@@ -140,16 +140,16 @@ module _ (at k : ℕ) (exact : Bool) (body before : List ℕ) (n : ℕ) (e : n �
   pub body_within : n ≤ length body
   body_within = let z = (run 68 body).within in omega arith
 
-  pub body_short : n ≡ length body → Tells at (first_of exact (with_set k (body_at body))) before (Err (TooShort (4 + n))) before
+  pub body_short : length body ≤ n → Tells at (first_of exact (with_set k (body_at body))) before (Err (TooShort (4 + n))) before
   unfolding end_or with_set first_of says_of filled
   body_short h =
-      let q : end_or n body ≡ short n = simp (eq-eqb n (length body) h) in
+      let q : end_or n body ≡ short n = simp (eq-eqb n (length body) (let z = body_within in omega arith)) in
       rw (body_is ∙ q) (record { says = refl; leaves = refl })
 
-  module _ (more : n ≡ length body → ⊥) (b : Bool) (t : b ≡ may_end n (get_or body n 0)) where
+  module _ (more : n < length body) (symbol : ℕ) (is : symbol ≡ get_or body n 0) (b : Bool) (t : b ≡ may_end n symbol) where
     at_end : end_or n body ≡ cond b (found (octets_of (take n body))) (misfit n)
     unfolding end_or
-    at_end = simp (ne_eqb n (length body) more, ← t)
+    at_end = simp (ne_eqb n (length body) (λ e. absurd (omega (arith, more, e))), ← is, ← t)
 
     pub body_misfit : b ≡ false → Tells at (first_of exact (with_set k (body_at body))) before (Err (NoFrame (4 + n))) before
     unfolding with_set first_of says_of filled
@@ -158,8 +158,8 @@ module _ (at k : ℕ) (exact : Bool) (body before : List ℕ) (n : ℕ) (e : n �
         rw (body_is ∙ q) (record { says = refl; leaves = refl })
 
     module _ (f : b ≡ true) where
-      pub ending : End n (get_or body n 0)
-      ending = end_true n (get_or body n 0) (sym t ∙ f)
+      pub ending : End n symbol
+      ending = end_true n symbol (sym t ∙ f)
 
       pub pairs : 2 * (n / 2) ≡ n
       pairs = let z = ending.even in omega arith

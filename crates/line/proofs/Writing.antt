@@ -9,7 +9,7 @@ use Prim.Native.Nat.{ℕ, ◌+◌, ◌*◌, ◌/◌, ◌%◌, ◌<◌, ◌≤◌
 use native.Mathlib.Omega.{arith}
 use borrow.Author.Tests.{lt-ltb, le-ltb, eq-eqb, ne_eqb}
 use lib.ListN.{length, set, length-append}
-use lib.Seq.{sets}
+use lib.Seq.{sets, length-sets}
 use Rattle.std.specs.Prelude.{Result, Ok, Err}
 use Rattle.std.specs.Int.{w32, to_le_bytes}
 use Rattle.line.specs.declared.kind.SopKind.{SopKind}
@@ -26,7 +26,7 @@ use Rattle.line.specs.Refusal.{first_no}
 use Rattle.line.specs.Write.{frame_room, wrong_length, written, writer_rows, sent, wrote, lent, Put, Writes}
 use Rattle.line.specs.Theorems.{FrameLengths}
 use Rattle.line.proofs.Numbers.{sop_below}
-use Rattle.line.proofs.Stores.{sets_append, sets_front}
+use Rattle.line.proofs.Stores.{sets_append, sets_front, lent_from, put_from, sets_behind}
 use Rattle.line.proofs.Nibbles.{length_encoded}
 use Rattle.line.proofs.Starts.{set_length}
 
@@ -78,24 +78,30 @@ le_octets n = refl
 
 -- the runs of stores that put a message
 pub message_put : (f : Frame) (before s₁ s₂ s₃ tail : List ℕ) (c : ℕ) → f.kind < sop_kinds
-    → s₁ ≡ sets before 0 (set_of f.kind) → s₂ ≡ sets s₁ 4 (encoded f.octets)
+    → length f.octets ≤ 30 → frame_room ≤ length before
+    → s₁ ≡ sets before 0 (set_of f.kind) → s₂ ≡ sets (lent_from 4 s₁) 0 (encoded f.octets)
     → c ≡ crc_of f.octets → tail ≡ to_le_bytes w32 c
-    → s₃ ≡ sets s₂ (4 + 2 * length f.octets) (encoded tail)
-    → Put f before (4 + 2 * length f.octets + 8 + 1) (set s₃ (4 + 2 * length f.octets + 8) eop)
+    → s₃ ≡ sets (lent_from (4 + 2 * length f.octets) (put_from 4 s₁ s₂)) 0 (encoded tail)
+    → Put f before (4 + 2 * length f.octets + 8 + 1) (set (put_from (4 + 2 * length f.octets) (put_from 4 s₁ s₂) s₃) (4 + 2 * length f.octets + 8) eop)
 unfolding four_octets
-message_put f before s₁ s₂ s₃ tail c h e₁ e₂ ec et e₃ =
+message_put f before s₁ s₂ s₃ tail c h few room e₁ e₂ ec et e₃ =
     let k = f.kind in
     let l = f.octets in
     let at = 4 + 2 * length l in
     let u : tail ≡ four_octets (crc_of l) = et ∙ le_octets c ∙ ap four_octets ec in
     let t : length tail ≡ 4 = ap length u in
+    let long : length s₁ ≡ length before = ap length e₁ ∙ length-sets before 0 (set_of k) in
+    let p₂ : put_from 4 s₁ s₂ ≡ sets s₁ 4 (encoded l) = sets_behind s₁ (encoded l) s₂ 4 (let m = length_encoded l in omega arith) e₂ in
+    let long₂ : length (put_from 4 s₁ s₂) ≡ length s₁ = ap length p₂ ∙ length-sets s₁ 4 (encoded l) in
+    let p₃ : put_from at (put_from 4 s₁ s₂) s₃ ≡ sets (put_from 4 s₁ s₂) at (encoded tail) =
+    sets_behind (put_from 4 s₁ s₂) (encoded tail) s₃ at (let m = length_encoded tail in omega arith) e₃ in
     let last = encoded tail ++ (eop ∷ []) in
     record {
       long = let n = length_message f h in omega arith;
       puts =
-          ap (λ (s : List ℕ). sets s (at + 8) (eop ∷ [])) e₃
-          ∙ sets_append s₂ at (encoded tail) (eop ∷ []) (at + 8) (let m = length_encoded tail in omega arith)
-          ∙ ap (λ (s : List ℕ). sets s at last) e₂
+          ap (λ (s : List ℕ). sets s (at + 8) (eop ∷ [])) p₃
+          ∙ sets_append (put_from 4 s₁ s₂) at (encoded tail) (eop ∷ []) (at + 8) (let m = length_encoded tail in omega arith)
+          ∙ ap (λ (s : List ℕ). sets s at last) p₂
           ∙ sets_append s₁ 4 (encoded l) last at (let m = length_encoded l in omega arith)
           ∙ ap (λ (s : List ℕ). sets s 4 (encoded l ++ last)) e₁
           ∙ sets_append before 0 (set_of k) (encoded l ++ last) 4 (let m = set_length k (omega arith) in omega arith)

@@ -1,5 +1,5 @@
 // The ordered sets (01, 'Line code (PD)', table): put at the beginning of a frame, and looked for at that of a record (02, A4).
-ghost use Rattle.std.specs.Prelude.{◌≡◌, ◌<◌, ◌≤◌, length};
+ghost use Rattle.std.specs.Prelude.{◌≡◌, ◌≤◌, length};
 ghost use Rattle.std.proofs.lemmas.List.Edits.{sets};
 ghost use Rattle.line.specs.Kind.{set_of};
 ghost use Rattle.line.specs.Numbered.{kind_number};

@@ -1,8 +1,8 @@
 // The line writer (01, 'Line writer').
-ghost use Rattle.std.specs.Prelude.{◌≡◌, ◌+◌, ◌*◌, ◌≤◌, ◌<◌, length};
+ghost use Rattle.std.specs.Prelude.{◌≡◌, ◌*◌, ◌≤◌, length};
 ghost use Rattle.std.proofs.lemmas.List.Edits.{sets};
 ghost use Rattle.line.specs.Symbol.{encoded};
-ghost use Rattle.line.specs.Numbered.{kind_number, sop_number};
+ghost use Rattle.line.specs.Numbered.{sop_number};
 ghost use Rattle.line.specs.declared.write.WriteError.TheVariants.{UnknownKind};
 ghost use Rattle.line.specs.Write.{frame_room, Put, Writes};
 
@@ -30,15 +30,15 @@ impl From<UnknownKind> for WriteError {
 // The symbols of the longest frame: 4 of the set, 68 of 34 octets, EOP (01, 'Line code (PD)').
 pub const FRAME_ROOM: usize = 73;
 
-// Each octet as two symbols, low nibble first, from `at` on.
-fn put_octets(octets: &[u8], symbols: &mut [u8], at: usize)
-    requires { at + 2 * length octets.now ≤ length symbols.old }
-    ensures { symbols.new ≡ sets symbols.old at (encoded octets.now) }
+// Each octet as two symbols, low nibble first, at the beginning of the lent ones.
+fn put_octets(octets: &[u8], symbols: &mut [u8])
+    requires { 2 * length octets.now ≤ length symbols.old }
+    ensures { symbols.new ≡ sets symbols.old 0 (encoded octets.now) }
 {
     // By the place: std says nothing of what pairs lent by `as_chunks_mut` or `chunks_exact_mut` end as, and a recursion that splits them off is longer.
     for (i, b) in octets.iter().enumerate() {
-        symbols[at + 2 * i] = symbol(*b & 15);
-        symbols[at + 2 * i + 1] = symbol(*b >> 4);
+        symbols[2 * i] = symbol(*b & 15);
+        symbols[2 * i + 1] = symbol(*b >> 4);
     }
 }
 
@@ -48,9 +48,9 @@ fn put_message(kind: SopKind, octets: &[u8], symbols: &mut [u8]) -> usize
     ensures { Put (record { kind = sop_number kind; octets = octets.now }) symbols.old result symbols.new }
 {
     put_set(Kind::Message(kind), symbols);
-    put_octets(octets, symbols, 4);
+    put_octets(octets, &mut symbols[4..]);
     let at = 4 + 2 * octets.len();
-    put_octets(&crc(octets).to_le_bytes(), symbols, at);
+    put_octets(&crc(octets).to_le_bytes(), &mut symbols[at..]);
     let end = at + 8;
     symbols[end] = EOP;
     end + 1

@@ -7,7 +7,7 @@ ghost use Rattle.text.specs.Put.{has_room};
 ghost use Rattle.text.specs.Page.{PutsOn, PrintsOn};
 ghost use Rattle.listing.specs.Lines.{mark_text, frame_text, no_text, bad_octet_text, frame_line_room};
 
-use line::kind::Kind;
+use line::read::FoundFrame;
 use text::Page;
 
 // As many digits as any place or number has.
@@ -24,19 +24,19 @@ fn put_mark(exact: bool, page: &mut Page)
 }
 
 // The line of a frame.
-pub(crate) fn put_frame(place: usize, kind: Kind, exact: bool, octets: &[u8], page: &mut Page)
+pub(crate) fn put_frame(place: usize, found: FoundFrame, octets: &[u8], page: &mut Page)
     requires { (length octets.now ≤ 34) × (page.old.at + frame_line_room ≤ length page.old.octets.now) }
-    ensures { PutsOn page.old (frame_text place (record { shape = record { kind = kind_number kind; octets = octets.now }; exact = exact })) page.new }
+    ensures { PutsOn page.old (frame_text place (record { shape = record { kind = kind_number found.kind; octets = octets.now }; exact = found.exact })) page.new }
 {
     page.put_decimal(place, PLACE_DIGITS);
     page.put(b' ');
-    page.put_decimal(u8::from(kind) as usize, 1);
-    put_mark(exact, page);
+    page.put_decimal(usize::from(u8::from(found.kind)), 1);
+    put_mark(found.exact, page);
     page.put_octets(octets);
     page.put(b'\n');
 }
 
-// The number is the text's own: 13 to 15, of which 14 is said at a record's end too (`no_text`).
+// A number and no `ReadError`, here and where one is given: `no_text` prints it, and 14 stands at a record's end too, where no error is.
 pub(crate) fn put_no(number: usize, place: usize, page: &mut Page)
     requires { page.old.at + frame_line_room ≤ length page.old.octets.now }
     ensures { PutsOn page.old (no_text number place) page.new }

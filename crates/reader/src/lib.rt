@@ -7,7 +7,7 @@ ghost use Rattle.reader.specs.Step.{Steps, Starts, Nexts, IsPlace, IsUnread};
 
 use line::read::{Answer, Cursor, read_frame, rest};
 
-// What a step answers, and the place it leads to; beside an error as well, since `Steps` says where the reader stays.
+// What a step answers, and the reader's place behind it; an error has a place too, since `Steps` says that the reader stays there.
 #[derive(Clone, Copy)]
 pub struct Moved {
     pub answer: Answer,

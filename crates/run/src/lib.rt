@@ -17,8 +17,9 @@ use turn::{Tells, tell};
 const LINE_ROOM: usize = 256;
 
 // Between lines: the console, the number of the last line, room for a line, and what the device is lent.
-// The device is no field: beside the buffers it would be copied out and back at each event, 0.150 s of a million events where it takes 0.142 s.
+// The device is no field: copied out and back at each event it costs 0.150 s a million where it takes 0.142 s, and each method would need a clause that it leaves the device.
 // A line is an array with its length given by `next_line`, since no crate here has a heap.
+// Pages of the console are made here, and by no method of it: stream/src/console.rt.
 #[derive(Drop)]
 struct Bench {
     console: Console,
@@ -75,7 +76,7 @@ impl Bench {
         self.console.stepped(used, true);
     }
 
-    // One line of the setup, or of the events.
+    // One line of the setup, or of the events: a bool, as `meant_by` takes it. `Asks` is a clause, as in fusb302 (device.rt).
     #[tactic(auto, using(turn::proofs::Turning::tell_asks, turn::proofs::Turning::tell_within))]
     fn one<T: Tells>(&mut self, tells: &T, setup: bool, device: Device) -> Device
         requires asks { Asks device }

@@ -2,12 +2,12 @@
 ghost use Rattle.std.specs.Prelude.{◌≡◌, true, false, ◌+◌, ◌*◌, ◌≤◌, ◌<◌, length, MatchOption};
 ghost use Rattle.std.proofs.lemmas.List.Edits.{sets};
 ghost use Rattle.script.specs.Text.{octet_at, suits, fits, digits_in, is_octet, are_octets, octets_in};
-ghost use Rattle.script.specs.Parse.{count_of, timed, packet_of, millivolts_of, number_part, rest_part, is_spaced, next_part, sensed, voltages_of, lettered_of, form_of, event_of, ReadsCount, ReadsMillivolts, line_of, Parses, ParsesSetup};
+ghost use Rattle.script.specs.Parse.{count_of, timed, packet_of, number_part, rest_part, is_spaced, next_part, voltages_of, lettered_of, form_of, event_of, ReadsCount, ReadsMillivolts, line_of, Parses, ParsesSetup};
 
 use text::hex::{is_hex, octet_of};
 
-// What a line says. A packet's kind is the number that stands there, since any is in form (`Parses`); its octets are so many at the
-// beginning of those lent, which `Parses` says of the lent ones, whole.
+// What a line says. A packet's kind is the number that stands there, since any is in form (`Parses`).
+// Voltages are numbers, as `line_of` has them. A packet's octets are the first so many of those lent, and no slice, since `Parses` promises of all that are lent.
 #[derive(Clone, Copy)]
 pub enum Line {
     Write(u8, u8),
@@ -18,7 +18,7 @@ pub enum Line {
     Sense(u16, u16, u16),
 }
 
-// A line of the longest form has room for so many octets of a packet.
+// So many octets of a packet have room in 255 characters.
 pub const PACKET_ROOM: usize = 84;
 
 // The octet that the two characters from `i` on write.
@@ -38,14 +38,14 @@ fn suits(m: u8, c: u8) -> bool
     if m == b'#' { is_hex(c) } else { m == c }
 }
 
-// Whether a line has the form that a mask shows: a mask reads as the line does, where a slice pattern would need a guard `is_hex` for each `#`.
+// Whether a line has the form that a mask shows. Masks and no slice patterns, for words without `#` too: `form_of`, `lettered_of` and `setup_of` have them.
 fn fits(mask: &[u8], line: &[u8]) -> bool
     ensures { result ≡ fits mask.now line.now }
 {
     mask.len() == line.len() && mask.iter().zip(line).all(|(m, c)| suits(*m, *c))
 }
 
-// A count, a time or a kind: 1 to 7 digits.
+// A count, a time or a kind: 1 to 7 digits. No `parse`: it takes a `+` before the digits, which `ReadsCount` refuses.
 #[tactic(auto, using(crate::proofs::Numbers::too_few, crate::proofs::Numbers::too_many, crate::proofs::Numbers::begin, crate::proofs::Numbers::bound))]
 pub fn decimal(s: &[u8]) -> Option<u32>
     ensures { ReadsCount s.now result }
@@ -126,6 +126,7 @@ fn packet(s: &[u8], octets: &mut [u8; PACKET_ROOM]) -> Option<Line>
 }
 
 // A voltage that an event may carry (02, A1).
+#[tactic(auto, using(crate::proofs::Voltages::no_volts, crate::proofs::Voltages::volts))]
 fn millivolts(s: &[u8]) -> Option<u16>
     ensures { ReadsMillivolts s.now result }
 {
@@ -139,11 +140,7 @@ fn digits_and_rest(s: &[u8]) -> Option<(&[u8], &[u8])>
     ensures { MatchOption result (is_spaced s.now ≡ false) (λ p. (is_spaced s.now ≡ true) × (p.0.now ≡ number_part s.now) × (p.1.now ≡ next_part s.now)) }
 {
     let (digits, rest) = split_digits(s);
-    let (space, behind) = rest.split_first()?;
-    if *space != b' ' {
-        return None;
-    }
-    Some((digits, behind))
+    Some((digits, rest.strip_prefix(b" ")?))
 }
 
 // What follows `v `: CC1, CC2 and VBUS.
@@ -196,7 +193,7 @@ fn form(line: &[u8], octets: &mut [u8; PACKET_ROOM]) -> Option<Line>
     lettered(line, octets)
 }
 
-// A line of the events. 255 characters hold at most 84 octets.
+// A line of the events. Its octets are lent by themselves, as `Parses` has them.
 #[tactic(auto, unfolding(crate::specs::Parse::event_of))]
 pub fn parse_event(line: &[u8], octets: &mut [u8; PACKET_ROOM]) -> Option<Line>
     ensures { Parses (event_of line.now) octets.old result octets.new }

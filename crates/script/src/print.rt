@@ -1,8 +1,9 @@
 // An outcome, or why there was no GoodCRC, to a line of output (01, 'On the bench table'; 02, A5).
 // No `Display`: `PrintsOutcome`, `PrintsBad` and `PrintsWhy` promise the whole line where there is room, and else none of it (text/src/page.rt).
-// Room is a clause and no type: a text takes of it, so that it holds where a function begins and not where it ends.
+// Room is a clause and no type: a text takes of it, so that it holds where a function begins and not where it ends. `SameOctets`: text/src/page.rt.
+// Reply, level and symbols go one by one: `PrintsOutcome` and `TellsOutcome` (turn) take each.
 ghost use Rattle.std.specs.Prelude.{◌≡◌, ◌+◌, ◌≤◌, length};
-ghost use Rattle.text.specs.Page.{PutsOn, PrintsOn, SameOctets};
+ghost use Rattle.text.specs.Page.{PutsOn, SameOctets};
 ghost use Rattle.line.specs.Write.{frame_room};
 ghost use Rattle.fusb302.specs.Serves.{replied};
 ghost use Rattle.fusb302.specs.Why.{reason_of};
@@ -15,7 +16,7 @@ use text::Page;
 // Room for any line: `no255`, a space and the level, 73 symbols, LF.
 pub const BENCH_LINE_ROOM: usize = 227;
 
-// As many digits as any line number has.
+// As many digits as any line number has. One is widened by `as`: `usize` is no `From` of `u32`.
 const LINE_DIGITS: usize = 10;
 
 // `ok`, `=vv`, `noN`.
@@ -31,7 +32,7 @@ fn put_reply(reply: Reply, page: &mut Page)
         }
         Err(no) => {
             page.put_text(b"no");
-            page.put_decimal(u8::from(no) as usize, 3);
+            page.put_decimal(usize::from(u8::from(no)), 3);
         }
     }
 }
@@ -62,6 +63,7 @@ fn put_bad(line: u32, page: &mut Page)
     page.put(b'\n');
 }
 
+#[tactic(auto, using(crate::proofs::Texts::is_refused, crate::proofs::Texts::is_word), unfolding(crate::specs::Print::reason_text))]
 fn put_reason(why: Why, page: &mut Page)
     requires { page.old.at + 15 ≤ length page.old.octets.now }
     ensures { PutsOn page.old (reason_text (reason_of why)) page.new }
@@ -69,7 +71,7 @@ fn put_reason(why: Why, page: &mut Page)
     match why {
         Why::Refused(no) => {
             page.put_text(b"refused ");
-            page.put_decimal(u8::from(no) as usize, 3);
+            page.put_decimal(usize::from(u8::from(no)), 3);
         }
         Why::KindOff => page.put_text(b"kind off"),
         Why::CrcWrong => page.put_text(b"CRC wrong"),

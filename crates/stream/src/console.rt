@@ -1,12 +1,13 @@
-// A stream with its handles and its two buffers: what it tells of them always lies in them.
+// A stream with its handles and its two buffers: its ends always lie in them.
 //
-// Who prints makes the page of `out` and `stream.used`: a method that hands it out would need a clause on what the buffer ends as.
+// Callers make the page of `out` and `stream.used`: a method that takes a closure proves, but each of the four closures would need clauses of its own.
+// `KeepsBuffers` is a clause: a relation of the console before and after, which no field says.
 ghost use Rattle.std.specs.Prelude.{◌≡◌, true, ◌+◌, ◌≤◌, slice_range};
 ghost use Rattle.text.specs.Put.{has_room};
 ghost use Rattle.stream.specs.Ready.{buffer_room, octet_waits, Ready};
 ghost use Rattle.stream.specs.Promises.{BeginsFresh, WritesOut, MakesRoom, Fills, StepsTo};
 
-use crate::{Input, Stream};
+use crate::{BUFFER_ROOM, Stream};
 use std::io::{Stdin, Stdout};
 
 // The buffers are arrays with their ends in `stream`, since no crate here has a heap; `Ready` says that these lie in them.
@@ -15,8 +16,8 @@ pub struct Console {
     stdin: Stdin,
     stdout: Stdout,
     pub stream: Stream,
-    pub buf: [u8; 65536],
-    pub out: [u8; 65536],
+    pub buf: [u8; BUFFER_ROOM],
+    pub out: [u8; BUFFER_ROOM],
     pub ghost ready: { Ready stream },
 }
 
@@ -30,8 +31,8 @@ impl Console {
             stdin,
             stdout,
             stream: Stream::begin(),
-            buf: [0; 65536],
-            out: [0; 65536],
+            buf: [0; BUFFER_ROOM],
+            out: [0; BUFFER_ROOM],
         }
     }
 
@@ -78,7 +79,7 @@ impl Console {
         self.stream.input.at += count;
     }
 
-    // `Stream::stepped`, with the input as it stands.
+    // `Stream::stepped`, with the input as it stands: `StepsTo` takes one.
     pub fn stepped(&mut self, used: usize, ends: bool)
         requires { used ≤ buffer_room }
         ensures steps { StepsTo self.old.stream self.old.stream.input used ends self.new.stream }

@@ -15,8 +15,11 @@ mod console;
 
 pub use console::Console;
 
+// The octets of either buffer, of what is read and of what is printed.
+pub(crate) const BUFFER_ROOM: usize = 65536;
+
 // What was read and not yet taken: the octets from at to end of the buffer.
-// No Range, since it is not Copy, as an input and a stream are for whoever holds one; `octet_waits` and `InBuffer` name both ends.
+// Two numbers and no Range: a Range is not Copy, and an input and a stream are; `octet_waits` and `InBuffer` name both ends.
 #[derive(Clone, Copy)]
 pub struct Input {
     pub at: usize,
@@ -24,8 +27,8 @@ pub struct Input {
 }
 
 impl Input {
-    // As it stands if an octet is there to take; else what one read gives, which is none at its end or where reading fails.
-    fn more(&mut self, mut stdin: Stdin, buf: &mut [u8; 65536])
+    // As it stands if an octet is there to take (`ReadsMore`); else what one read gives, which is none at its end or where reading fails.
+    fn more(&mut self, mut stdin: Stdin, buf: &mut [u8; BUFFER_ROOM])
         ensures { ReadsMore (octet_waits self.old) self.old buf.old self.new buf.new }
     {
         if self.at < self.end {
@@ -40,7 +43,7 @@ impl Input {
 }
 
 // What is to be taken, how much is printed and not yet written, and whether the run goes on.
-// `on` stays a bool: the other two stand in a run that has ended too, whose last octets are still to be written.
+// `on` is a bool, since the other two stand in a run that has ended too, whose last octets are still to be written.
 #[derive(Clone, Copy)]
 pub struct Stream {
     pub input: Input,
@@ -87,9 +90,8 @@ impl Stream {
         self.write_out(stdout, out);
     }
 
-    // As it stands if an octet is there to take; else `write_out` and, where the run goes on, what one read gives. That the write comes first
-    // is only run.
-    pub fn fill(&mut self, stdin: Stdin, stdout: Stdout, buf: &mut [u8; 65536], out: &[u8])
+    // As it stands if an octet is there to take; else `write_out` and, where the run goes on, a read. That the write is first is only run.
+    pub fn fill(&mut self, stdin: Stdin, stdout: Stdout, buf: &mut [u8; BUFFER_ROOM], out: &[u8])
         ensures { Fills (octet_waits self.old.input) self.old buf.old self.new buf.new }
     {
         if self.input.at < self.input.end {

@@ -2,7 +2,7 @@
 ghost use Rattle.std.specs.Prelude.{◌≡◌, ◌<◌, IfSome, is_some, unwrap_or};
 ghost use Rattle.text.specs.Hex.{hex_value, digit_of, is_hex, TellsHex, MakesOctet};
 
-// The value of a hex digit; no other character has one.
+// The value of a hex digit; no other character has one. Not std's `to_digit` and `from_digit`: they take and give small letters, which `is_hex` refuses.
 #[tactic(auto, unfolding(crate::specs::Hex::is_hex, crate::specs::Hex::hex_value))]
 fn hex_value(c: u8) -> Option<u8>
     ensures { (is_some result ≡ is_hex c) × (unwrap_or result 0 ≡ hex_value c) × IfSome result (λ n. n < 16) }
@@ -28,7 +28,7 @@ pub fn octet_of(a: u8, b: u8) -> u8
     16 * hex_value(a).unwrap_or(0) + hex_value(b).unwrap_or(0)
 }
 
-// The hex digit of a value.
+// The hex digit of a value. No `from_digit`: see `hex_value`.
 #[tactic(auto, unfolding(crate::specs::Hex::digit_of))]
 pub(crate) fn digit(n: u8) -> u8
     requires { n < 16 }

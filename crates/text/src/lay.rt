@@ -1,4 +1,4 @@
-// Texts laid on a page whose room is known.
+// Texts laid on a page whose room is known. Room is a clause and no type: a text takes of it, so that it holds where a method begins and not where it ends.
 ghost use Rattle.std.specs.Prelude.{[], ◌∷◌, ◌+◌, ◌*◌, ◌≤◌, length};
 ghost use Rattle.text.specs.Hex.{hex_of};
 ghost use Rattle.text.specs.Put.{decimal_of, spaced};
@@ -16,6 +16,7 @@ impl Page<'_> {
         self.at += 1;
     }
 
+    #[tactic(auto, using(crate::proofs::Texts::copied, crate::proofs::Pages::on))]
     pub(crate) fn lay_text(&mut self, text: &[u8])
         requires { self.old.at + length text.now ≤ length self.old.octets.now }
         ensures { PutsOn self.old text.now self.new }
@@ -34,7 +35,7 @@ impl Page<'_> {
         self.lay(digit(b % 16));
     }
 
-    // A number in at most so many digits, of a longer one the last so many.
+    // A number in at most so many digits, of a longer one the last so many; `as`, since a digit fits.
     pub(crate) fn lay_decimal(&mut self, n: usize, most: usize)
         requires { self.old.at + most ≤ length self.old.octets.now }
         ensures { PutsOn self.old (decimal_of most n) self.new }

@@ -1,7 +1,9 @@
 // Texts put on a page: each method puts its own and moves the place behind it; without room it puts nothing.
 //
-// A text goes into lent octets and no String, since no crate here has a heap; and by methods of its own and no `Display`, since `fmt` promises
-// its text where it answers Ok (`DisplaysOnOk`), and not that it does where there is room, as `Prints`, `PrintsOutcome`, `Feeds` and `Finishes` do.
+// Lent octets and no String, since no crate here has a heap.
+// No `Display`, since `fmt` promises its text where it answers Ok (`DisplaysOnOk`), and `Prints`, `PrintsOutcome`, `Feeds` and `Finishes` wherever it has room.
+// Each method asks for its room and lays its text: one method over a closure would need clauses at each closure.
+// That the octets stay the same lent ones is a clause, `SameOctets`: a relation of the page before and after, which no field of a page says.
 ghost use Rattle.std.specs.Prelude.{◌≡◌, [], ◌∷◌, ◌+◌, ◌*◌, leb, length};
 ghost use Rattle.text.specs.Hex.{hex_of};
 ghost use Rattle.text.specs.Put.{decimal_of, octets_text, has_room, TellsRoom};
@@ -21,19 +23,19 @@ pub fn has_room(need: usize, octets: usize, at: usize) -> bool
     need <= octets && at <= octets - need
 }
 
-// Whether three times so many have room: by division first, since the product need not fit.
-fn has_room_thrice(count: usize, octets: usize, at: usize) -> bool
-    ensures { result ≡ leb (at + 3 * count) octets }
-{
-    count <= octets / 3 && has_room(3 * count, octets, at)
-}
-
 impl Page<'_> {
     // Whether `need` more have room.
     pub fn has_room(&self, need: usize) -> bool
         ensures { TellsRoom need (length self.now.octets.now) self.now.at result }
     {
         has_room(need, self.octets.len(), self.at)
+    }
+
+    // Whether three times so many have room: by division first, since the product need not fit.
+    fn has_room_thrice(&self, count: usize) -> bool
+        ensures { result ≡ leb (self.now.at + 3 * count) (length self.now.octets.now) }
+    {
+        count <= self.octets.len() / 3 && self.has_room(3 * count)
     }
 
     pub fn put(&mut self, b: u8)
@@ -75,7 +77,7 @@ impl Page<'_> {
     {
         if octets.is_empty() {
             self.put_text(b" -");
-        } else if has_room_thrice(octets.len(), self.octets.len(), self.at) {
+        } else if self.has_room_thrice(octets.len()) {
             self.lay_spaced(octets);
         }
     }

@@ -24,8 +24,8 @@ pub struct Given<'a> {
     pub ghost heard: { heard_of line ≤ length octets.now },
 }
 
-// `Asks` is a clause here and below, as in fusb302 (device.rt): it is what the device's methods ask.
 // What a program tells of each line: its outcome (01, 'On the bench table'), or of a packet why it gets no GoodCRC (02, A5).
+// `Asks` is a clause here and below, as in fusb302 (device.rt): it is what the device's methods ask. `SameOctets`: text/src/page.rt.
 pub trait Tells {
     ghost telling: { Telling };
 
@@ -35,7 +35,7 @@ pub trait Tells {
         ensures same_octets { SameOctets page.old page.new }
         ensures tells { TellsReason telling (view device) (Some (event_for given.entry.line given.entry.octets.now)) number page.old.octets.now page.old.at page.new.at page.new.octets.now };
 
-    // What is told after it.
+    // What is told after it. Reply, level and symbols go one by one: `TellsOutcome`.
     fn tell_outcome(&self, reply: Reply, high: bool, symbols: &[u8], page: &mut Page)
         ensures same_octets { SameOctets page.old page.new }
         ensures tells { TellsOutcome telling (replied reply) high symbols.now page.old.octets.now page.old.at page.new.at page.new.octets.now };
@@ -71,14 +71,15 @@ impl Tells for Reasons {
     fn tell_outcome(&self, _reply: Reply, _high: bool, _symbols: &[u8], _page: &mut Page) {}
 }
 
-// After a line: the device, and whether the run ends there; no value depends on the flag, since the device stands either way.
+// After a line: the device, and whether the run ends there; no value depends on the flag, since the device stands either way (`TurnsTelling`).
 #[derive(Clone, Copy)]
 pub struct After {
     pub device: Device,
     pub ends: bool,
 }
 
-// Which of two parsers is a bool and no closure: `meant_by` and `TakesLine` name it.
+// Which of two parsers is a bool and no closure: `meant_by` takes it, in the contracts of `tell` and `turn`.
+#[tactic(auto, using(crate::proofs::Turning::setup_parses))]
 fn parsed(setup: bool, line: &[u8], octets: &mut [u8; PACKET_ROOM]) -> Option<Line>
     ensures { Parses (meant_by setup line.now) octets.old result octets.new }
 {
@@ -88,11 +89,10 @@ fn parsed(setup: bool, line: &[u8], octets: &mut [u8; PACKET_ROOM]) -> Option<Li
     parse_event(line, octets)
 }
 
-// The event of a parsed line.
+// The event of a parsed line. Device and line go one by one: the device goes on alone.
 fn serve(device: Device, given: Given, symbols: &mut [u8; FRAME_ROOM]) -> Outcome
     requires { Asks device }
-    ensures serves { Serves (event_for given.entry.line given.entry.octets.now) device symbols.old result symbols.new }
-    ensures long { (length symbols.old ≡ 73) × (length symbols.new ≡ 73) }
+    ensures { Serves (event_for given.entry.line given.entry.octets.now) device symbols.old result symbols.new }
 {
     match given.line {
         Line::Write(address, value) => device.write(address, value, symbols),
@@ -128,7 +128,8 @@ fn act<T: Tells>(
 }
 
 // Takes a line of the setup, or of the events, and tells of it; one out of form ends the run. Where a line of text need not fit on the
-// page, it takes none and the run ends. What is lent goes one by one, since `TakesLine` speaks of each and callers lend their own.
+// page, it takes none and the run ends.
+// What is lent goes one by one, as `TakesLine` promises of whatever is lent: a struct that owned it would ask more of callers.
 pub fn tell<T: Tells>(
     tells: &T,
     device: Device,

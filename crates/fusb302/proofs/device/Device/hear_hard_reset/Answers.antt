@@ -10,5 +10,5 @@ returns-then-symbols-lt-FRAME_ROOM c = rw c.refuse.ensures (reset_small _ c.requ
 pub returns : goal.returns
 unfolding hard_reset_heard
 returns c =
-    let h = over_noted c.args.self c.over.result c.shows.result c.raises_a-heard.result _ _ c.over.ensures c.shows.ensures c.raises_a-heard.ensures in
-    rw c.done.ensures (reset_heard _ c.requires _ c.if-symbols-lt-FRAME_ROOM.false c.raises_a-heard.result h.arranged h.state)
+    let h = over_noted c.args.self c.over.result c.shows.result c.raises_a.result _ _ c.over.ensures c.shows.ensures c.raises_a.ensures in
+    rw c.done.ensures (reset_heard _ c.requires _ c.if-symbols-lt-FRAME_ROOM.false c.raises_a.result h.arranged h.state)

@@ -4,4 +4,4 @@ use Rattle.fusb302.proofs.Waiting.{pass_expires}
 use Rattle.fusb302.proofs.device.Device.pass.Goals as goal
 
 pub returns : goal.returns
-returns c = pass_expires _ c.requires _ _ _ c.in-Some.ensures.cases c.if-microseconds-gt-LONGEST_PASS.false _ c.in-Some-request.is c.if-waited-lt-WAIT.false _ _ _ refl c.expire.ensures
+returns c = pass_expires _ c.requires _ _ _ c.in-Some.ensures.cases c.if-microseconds-gt-LONGEST_PASS.false _ c.in-Some-request.is (rw c.from.ensures at c.if-waited-lt-WAIT.false) _ _ _ (rw c.from.ensures refl) c.expire.ensures

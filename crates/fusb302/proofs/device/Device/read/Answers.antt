@@ -1,4 +1,4 @@
--- The octet that is shown, on the device with its interrupts cleared; each other way out is found alone.
+-- The octet that is shown, on the device with its interrupts cleared; each other way out needs no answer.
 use mathlib.Core.Path.{refl}
 use Rattle.fusb302.proofs.Answering.{read_shown}
 use Rattle.fusb302.proofs.device.Device.read.Goals as goal
