@@ -149,7 +149,7 @@ one_level d r s p q = p ∙ sym q
 -- ---- why was there no GoodCRC?
 
 -- the answer of a reason, or of none
-pub why_of : Option Reason → Why
+pub why_of : Option Reason → Why No
 why_of none = Leaves
 why_of (some (refused n)) = Refused (reason n)
 why_of (some kind_off) = KindOff
@@ -160,7 +160,7 @@ why_of (some auto_crc_off) = AutoCrcOff
 why_of (some auto_pre_on) = AutoPreOn
 why_of (some driver_off) = whys.DriverOff
 
-why_back : (w : Why) → why_of (reason_of w) ≡ w
+why_back : (w : Why No) → why_of (reason_of w) ≡ w
 unfolding why_of
 why_back (Refused n) = ap (λ (x : No). Refused x) (reason_of_number n)
 why_back KindOff = refl
@@ -191,7 +191,7 @@ pub reason_back : (s : State) (k : ℕ) (m : List ℕ) → reason_of (why_of (wh
 unfolding AllAnswered why why_of reasons reason
 reason_back s k m = first_answered (causes s k m) (refl, (refl, (refl, (refl, (refl, (refl, (refl, (refl, (refl, tt)))))))))
 
-same_why : (r s : Why) → reason_of r ≡ reason_of s → r ≡ s
+same_why : (r s : Why No) → reason_of r ≡ reason_of s → r ≡ s
 same_why r s e = sym (why_back r) ∙ ap why_of e ∙ why_back s
 
 pub one_why : OneWhy
@@ -227,7 +227,7 @@ some_symbols f w =
     let n : length (symbols_of f ++ []) ≡ length (symbols_of f) = ap length (append-nil (symbols_of f)) in
     ⊎_elim (λ z. omega arith) (λ z. omega (arith, z.0)) (frame_lengths f w)
 
-module _ (d : Device) (k : ℕ) (m : List ℕ) (w : Why) (before : List ℕ) (r : Outcome) (after : List ℕ)
+module _ (d : Device) (k : ℕ) (m : List ℕ) (w : Why No) (before : List ℕ) (r : Outcome) (after : List ℕ)
     (room : frame_room ≤ length before) (is : Explains d k m w) (serves : Serves (packet (length before) k m) d before r after) where
   abbrev sent : List Frame
   sent = (step (view d) (packet (length before) k m)).frames

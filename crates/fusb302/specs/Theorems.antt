@@ -41,7 +41,7 @@ pub record ViewEnough : Type 0 where
       → Alike r s a b × (Asks r.device × Asks s.device)
   pub levels : (d c : Device) (r s : Bool) → view d ≡ view c → Level d r → Level c s → r ≡ s
   pub whys :
-      (d c : Device) (k : ℕ) (m : List ℕ) (r s : Why) → view d ≡ view c → Explains d k m r → Explains c k m s → r ≡ s
+      (d c : Device) (k : ℕ) (m : List ℕ) (r s : Why No) → view d ≡ view c → Explains d k m r → Explains c k m s → r ≡ s
 
 abbrev pub OnePowerUp : Type 0
 OnePowerUp = (d e : Device) → PoweredUp d → PoweredUp e → view d ≡ view e
@@ -53,7 +53,7 @@ OneLevel = (d : Device) (r s : Bool) → Level d r → Level d s → r ≡ s
 
 -- no second answer
 abbrev pub OneWhy : Type 0
-OneWhy = (d : Device) (k : ℕ) (m : List ℕ) (r s : Why) → Explains d k m r → Explains d k m s → r ≡ s
+OneWhy = (d : Device) (k : ℕ) (m : List ℕ) (r s : Why No) → Explains d k m r → Explains d k m s → r ≡ s
 
 -- frames that answer a packet, put into the lent symbols and counted
 pub record RepliesWith (k : ℕ) (m before : List ℕ) (n : ℕ) (after : List ℕ) : Type 0 where
@@ -62,13 +62,13 @@ pub record RepliesWith (k : ℕ) (m before : List ℕ) (n : ℕ) (after : List �
   pub sends : Sends frames before n after
 
 -- what an answer says of the event: that a reply leaves exactly when symbols are sent, and a refusal exactly when it is given
-pub record TrueOfEvent (k : ℕ) (m : List ℕ) (w : Why) (before : List ℕ) (r : Outcome) (after : List ℕ) : Type 0 where
+pub record TrueOfEvent (k : ℕ) (m : List ℕ) (w : Why No) (before : List ℕ) (r : Outcome) (after : List ℕ) : Type 0 where
   pub leaves : (w ≡ Leaves) ↔ (0 < r.count)
   pub reply : w ≡ Leaves → RepliesWith k m before r.count after
   pub refused : (n : No) → (w ≡ Refused n) ↔ (r.reply ≡ Err n)
 
 abbrev pub WhyTrueOfEvent : Type 0
 WhyTrueOfEvent =
-    (d : Device) (k : ℕ) (m : List ℕ) (w : Why) (before : List ℕ) (r : Outcome) (after : List ℕ)
+    (d : Device) (k : ℕ) (m : List ℕ) (w : Why No) (before : List ℕ) (r : Outcome) (after : List ℕ)
     → frame_room ≤ length before → Explains d k m w → Serves (packet (length before) k m) d before r after
     → TrueOfEvent k m w before r after

@@ -59,8 +59,8 @@ pub(crate) struct Cell {
     ghost among: { at < 15 },
 }
 
-// Nothing or the octet that was read; or why the event is refused.
-pub type Reply = Result<Option<u8>, No>;
+// Nothing or the octet that was read; or why the event is refused. `N` may be any type of reasons or numbers: the device's own are `No`.
+pub type Reply<N = No> = Result<Option<u8>, N>;
 
 // What an event gives back: the device, its reply, and how many of the lent symbols it sent; a count, since `Serves` speaks of the lent ones, whole.
 #[derive(Clone, Copy)]

@@ -38,9 +38,9 @@ impl Fifo {
         self
     }
 
-    // The oldest octet, if one is held, and what is held without it.
-    pub(crate) fn pop(mut self) -> Option<(u8, Fifo)>
-        ensures { MatchOption result (held self ≡ []) (λ p. held self ≡ p.0 ∷ held p.1) }
+    // Takes the oldest octet, if one is held.
+    pub(crate) fn pop(&mut self) -> Option<u8>
+        ensures { MatchOption result ((held self.old ≡ []) × (self.new ≡ self.old)) (λ octet. held self.old ≡ octet ∷ held self.new) }
     {
         if self.len == 0 {
             return None;
@@ -48,6 +48,6 @@ impl Fifo {
         let octet = self.octets[0];
         self.octets.rotate_left(1);
         self.len -= 1;
-        Some((octet, self))
+        Some(octet)
     }
 }

@@ -109,10 +109,11 @@ impl Device {
         requires { Asks self }
         ensures { PortRead self result }
     {
-        let Some((octet, rest)) = self.rx.pop() else {
+        let mut rx = self.rx;
+        let Some(octet) = rx.pop() else {
             return self.refuse(No::NothingHeld);
         };
-        self.rx = rest;
+        self.rx = rx;
         self.give(octet)
     }
 
@@ -129,7 +130,11 @@ impl Device {
         };
         match place {
             Place::Id => self.give(DEVICE_ID),
-            Place::Stored(cell) => self.give(self.cells[cell.at]),
+            Place::Stored(cell) => {
+                // From a copy: where a place that is computed is taken of the device itself, all of it is laid out in memory first, and the bench takes a tenth longer.
+                let cells = self.cells;
+                self.give(cells[cell.at])
+            }
             Place::Shown => {
                 let octet = self.shown(address);
                 self.ints = self.ints.cleared(address);

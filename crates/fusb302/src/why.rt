@@ -10,9 +10,10 @@ use crate::refusals::No;
 use line::crc::right;
 
 // The first reason why no reply leaves for a packet, or `Leaves`: an answer as the others are, since `Explains` and `TrueOfEvent` speak of each.
+// `N` as in `Reply`.
 #[derive(Clone, Copy)]
-pub enum Why {
-    Refused(No),
+pub enum Why<N = No> {
+    Refused(N),
     KindOff,
     CrcWrong,
     NoRoom,

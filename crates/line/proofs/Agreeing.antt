@@ -20,7 +20,7 @@ use Rattle.line.specs.Theorems.{OneTaken}
 
 -- ---- in how many places a set and a record agree
 
-agree_most : (s l : List ℕ) → agree s l ≤ length s
+pub agree_most : (s l : List ℕ) → agree s l ≤ length s
 unfolding agree
 agree_most [] l = omega arith
 agree_most (x ∷ xs) [] = omega arith

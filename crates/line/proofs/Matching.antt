@@ -4,14 +4,15 @@ use mathlib.Core.Path.{◌≡◌, refl, sym, ap, ap₂, ◌∙◌}
 use mathlib.Core.Bool.{Bool, true, false, cond, ◌&&◌}
 use mathlib.Core.List.{List, [], ◌∷◌, map}
 use mathlib.Core.Option.{Option, none, some}
-use Prim.Native.Nat.{ℕ, suc, ◌<◌, ◌≤◌}
+use Prim.Native.Nat.{ℕ, suc, ◌+◌, ◌<◌, ◌≤◌}
 use native.Mathlib.Omega.{arith}
 use borrow.Author.Tests.{lt-ltb, le-ltb}
 use lib.Dec.{eqb, eqb-zero-suc, eqb-suc-suc}
 use lib.ListN.{length}
+use mir.Val.{bool_byte}
 use Rattle.std.specs.Prelude.{filter, find}
 use Rattle.std.specs.Prelude.{Option as Maybe, Some, None}
-use Rattle.std.specs.List.{zip, starts_with}
+use Rattle.std.specs.List.{starts_with}
 use Rattle.line.specs.declared.kind.Kind.{Kind}
 use Rattle.line.specs.Numbered.{kind_number}
 use Rattle.line.specs.Kind.{set_of, common, kind_from}
@@ -21,16 +22,34 @@ use Rattle.line.proofs.Starts.{set_length}
 
 -- ---- in how many places a set and a record agree
 
-pub counted : (s l : List ℕ) → length (filter (λ (p : ℕ × ℕ). eqb p.0 p.1) (zip s l)) ≡ agree s l
+-- one place more is compared
+pub compared : (x y : ℕ) (xs ys : List ℕ) (n b : ℕ) → b ≡ bool_byte (eqb x y) → n + agree (x ∷ xs) (y ∷ ys) ≡ n + b + agree xs ys
 unfolding agree
-counted [] l = refl
-counted (x ∷ xs) [] = refl
-counted (x ∷ xs) (y ∷ ys) = go (eqb x y) (filter (λ (p : ℕ × ℕ). eqb p.0 p.1) (zip xs ys)) (counted xs ys)
+compared x y xs ys n b e = go (eqb x y) e
   where
-    go : (b : Bool) (more : List (ℕ × ℕ)) → length more ≡ agree xs ys
-        → length (cond b ((x, y) ∷ more) more) ≡ cond b (suc (agree xs ys)) (agree xs ys)
-    go true more e = ap suc e
-    go false more e = e
+    go : (same : Bool) → b ≡ bool_byte same → n + cond same (suc (agree xs ys)) (agree xs ys) ≡ n + b + agree xs ys
+    go true e = omega (arith, e)
+    go false e = omega (arith, e)
+
+-- and no more are counted than there are places
+pub few_counted : (x y n b : ℕ) → n ≤ 4 → b ≡ bool_byte (eqb x y) → n + b ≤ 5
+few_counted x y n b h e = go (eqb x y) e
+  where
+    go : (same : Bool) → b ≡ bool_byte same → n + b ≤ 5
+    go true e = omega (arith, e)
+    go false e = omega (arith, e)
+
+-- where either ends there is no place more
+pub set_ends : (s l : List ℕ) → length s ≡ 0 → agree s l ≡ 0
+unfolding agree
+set_ends [] l e = refl
+set_ends (x ∷ xs) l e = absurd (omega arith)
+
+pub line_ends : (s l : List ℕ) → length l ≡ 0 → agree s l ≡ 0
+unfolding agree
+line_ends [] l e = refl
+line_ends (x ∷ xs) [] e = refl
+line_ends (x ∷ xs) (y ∷ ys) e = absurd (omega arith)
 
 -- ---- the kinds whose sets a record begins with, and those that agree with it in three places
 

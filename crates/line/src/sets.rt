@@ -46,8 +46,13 @@ pub(crate) fn put_set(kind: Kind, symbols: &mut [u8])
 fn agree(kind: Kind, line: &[u8]) -> usize
     ensures { result ≡ agree (set_of (kind_number kind)) line.now }
 {
+    // A sum in a `for` and no `filter` with `count`, behind which `frames` takes twice as long where sets are near ones.
     let set = set_of(kind);
-    set.iter().zip(line).filter(|(a, b)| a == b).count()
+    let mut count = 0;
+    for (a, b) in set.iter().zip(line) {
+        count += usize::from(a == b);
+    }
+    count
 }
 
 // The kind whose set a record's first four symbols are taken for, any or an SOP kind, and whether they are it exactly.

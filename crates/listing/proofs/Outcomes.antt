@@ -1,13 +1,14 @@
 -- No second outcome: each promise says all of what it gives.
 -- Assumes nothing.
-use mathlib.Core.Path.{◌≡◌, sym, ◌∙◌}
-use mathlib.Core.Bool.{Bool, true, false}
+use mathlib.Core.Path.{◌≡◌, refl, sym, ap, ◌∙◌}
+use mathlib.Core.Bool.{Bool, true, false, true≢false}
 use mathlib.Core.List.{List}
 use Prim.Native.Nat.{ℕ}
+use Rattle.std.specs.Prelude.{Some, None}
 use Rattle.text.proofs.Outcomes.{one_printing}
 use Rattle.listing.specs.declared.Listing.{Listing}
 use Rattle.listing.specs.Promises.{Fed, may_print, TakesCharacter}
-use Rattle.listing.specs.Theorems.{OneBegin, OneFeed, OneFinish}
+use Rattle.listing.specs.Theorems.{OneBegin, OneFeed, OneMeaningFed, OneFinish}
 
 pub one_begin : OneBegin
 one_begin r s p q = p ∙ sym q
@@ -20,6 +21,12 @@ taken_once false l c window out at r s w x a d p q = (p.0 ∙ sym q.0, p.1 ∙ s
 
 pub one_feed : OneFeed
 one_feed l c window out at r s w x a d p q = taken_once (may_print l out at) l c window out at r s w x a d p q
+
+pub one_meaning_fed : OneMeaningFed
+one_meaning_fed l (Some m) (Some n) p q e = (ap (λ (x : Fed). Some x.listing) e, ap (λ (x : Fed). x.at) e)
+one_meaning_fed l (Some m) None p q e = absurd (true≢false (sym (ap (λ (x : Fed). x.ends) e)))
+one_meaning_fed l None (Some n) p q e = absurd (true≢false (ap (λ (x : Fed). x.ends) e))
+one_meaning_fed l None None p q e = (refl, ap (λ (x : Fed). x.at) e)
 
 pub one_finish : OneFinish
 one_finish l out at r s a b p q = one_printing (may_print l out at) out at _ r s a b p q

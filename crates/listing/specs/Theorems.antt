@@ -1,13 +1,13 @@
 -- What holds of a listing; proofs/ has the proof of each statement.
 -- Assumes nothing.
-use Rattle.std.specs.Prelude.{◌≡◌, true, List, ℕ, ◌+◌, ◌<◌, ◌^◌, length}
+use Rattle.std.specs.Prelude.{◌≡◌, true, List, ℕ, ◌+◌, ◌<◌, ◌^◌, length, Option}
 use Rattle.line.specs.Frame.{Frame, AllWhole, joined}
 use Rattle.reader.specs.Walk.{read_exact}
 use Rattle.listing.specs.declared.Listing.{Listing}
 use Rattle.listing.specs.Form.{recorded}
 use Rattle.listing.specs.Listed.{frames_text, listed}
 use Rattle.listing.specs.Steps.{empty_state, printed_from}
-use Rattle.listing.specs.Promises.{Fed, window_room, Right, listing_of, BeginsListing, Feeds, Finishes}
+use Rattle.listing.specs.Promises.{Fed, fed_as, window_room, Right, listing_of, BeginsListing, Feeds, Finishes}
 use Rattle.listing.specs.Calls.{CallsPrint}
 
 -- ---- 1. Of whole frames each is shown, none with a mark, and nothing more
@@ -45,6 +45,10 @@ abbrev pub OneFeed : Type 0
 OneFeed =
     (l : Listing) (c : ℕ) (window out : List ℕ) (at : ℕ) (r s : Fed) (w x a b : List ℕ)
     → Feeds l c window out at r w a → Feeds l c window out at s x b → (r ≡ s) × (w ≡ x) × (a ≡ b)
+
+-- and no two answers are read as the same
+abbrev pub OneMeaningFed : Type 0
+OneMeaningFed = (l : Listing) (r s : Option Listing) (p q : ℕ) → fed_as l r p ≡ fed_as l s q → (r ≡ s) × (p ≡ q)
 
 abbrev pub OneFinish : Type 0
 OneFinish =

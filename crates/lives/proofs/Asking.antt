@@ -11,6 +11,7 @@ use Rattle.machine.specs.Step.{step, after}
 use Rattle.machine.specs.Why.{Reason, why}
 use Rattle.machine.specs.Theorems.{AllFit}
 use Rattle.fusb302.specs.declared.device.Device.{Device}
+use Rattle.fusb302.specs.declared.refusals.No.{No}
 use Rattle.fusb302.specs.declared.why.Why.{Why}
 use Rattle.fusb302.specs.View.{view}
 use Rattle.fusb302.specs.Serves.{Reply}
@@ -52,13 +53,13 @@ answers_more s (question j l ∷ acts) k m = ap (λ (o : List (Option Reason)). 
 
 -- ---- the questions struck out
 
-struck_out : {acts : List Act} {d : Device} {rs : List Reply} {line : List ℕ} {ws : List Why}
+struck_out : {acts : List Act} {d : Device} {rs : List Reply} {line : List ℕ} {ws : List (Why No)}
     → LivedAsking acts d rs line ws → Lived (events_of acts) d rs line
 struck_out (began p) = born p
 struck_out (goes {acts} {e} life call serves) = rw (events_more acts e) (went (struck_out life) call serves)
 struck_out (asks {acts} k m w life is) = rw (events_same acts k m) (struck_out life)
 
-machines_answers : {acts : List Act} {d : Device} {rs : List Reply} {line : List ℕ} {ws : List Why}
+machines_answers : {acts : List Act} {d : Device} {rs : List Reply} {line : List ℕ} {ws : List (Why No)}
     → LivedAsking acts d rs line ws → map reason_of ws ≡ answers_to power_up acts
 machines_answers (began p) = refl
 machines_answers (goes {acts} {e} life call serves) = machines_answers life ∙ sym (answers_same power_up acts e)

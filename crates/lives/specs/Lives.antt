@@ -5,6 +5,7 @@ use Rattle.machine.specs.Events.{Event, Fits, room}
 use Rattle.fusb302.specs.declared.device.Device.{Device}
 use Rattle.fusb302.specs.declared.device.Outcome.{Outcome}
 use Rattle.fusb302.specs.View.{PoweredUp}
+use Rattle.fusb302.specs.declared.refusals.No.{No}
 use Rattle.fusb302.specs.declared.why.Why.{Why}
 use Rattle.fusb302.specs.Serves.{Reply, Serves}
 use Rattle.fusb302.specs.Why.{Explains}
@@ -33,11 +34,11 @@ events_of (event e ∷ acts) = e ∷ events_of acts
 events_of (question k m ∷ acts) = events_of acts
 
 -- as a life, and what the questions are answered; the method gives no device back, so the one that was asked goes on
-pub data LivedAsking : List Act → Device → List Reply → List ℕ → List Why → Type 0 where
+pub data LivedAsking : List Act → Device → List Reply → List ℕ → List (Why No) → Type 0 where
   began : {d : Device} → PoweredUp d → LivedAsking [] d [] [] []
-  goes : {acts : List Act} {d : Device} {rs : List Reply} {line : List ℕ} {ws : List Why} {e : Event} {before : List ℕ} {r : Outcome} {after : List ℕ}
+  goes : {acts : List Act} {d : Device} {rs : List Reply} {line : List ℕ} {ws : List (Why No)} {e : Event} {before : List ℕ} {r : Outcome} {after : List ℕ}
       → LivedAsking acts d rs line ws → Called e before → Serves e d before r after
       → LivedAsking (acts ++ (event e ∷ [])) r.device (rs ++ (r.reply ∷ [])) (line ++ take r.count after) ws
-  asks : {acts : List Act} {d : Device} {rs : List Reply} {line : List ℕ} {ws : List Why} (k : ℕ) (m : List ℕ) (w : Why)
+  asks : {acts : List Act} {d : Device} {rs : List Reply} {line : List ℕ} {ws : List (Why No)} (k : ℕ) (m : List ℕ) (w : Why No)
       → LivedAsking acts d rs line ws → Explains d k m w
       → LivedAsking (acts ++ (question k m ∷ [])) d rs line (ws ++ (w ∷ []))

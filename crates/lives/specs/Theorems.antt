@@ -117,7 +117,7 @@ EveryHistoryLived = (es : List Event) → AllFit es → LifeOf es
 
 -- an answer that the method's promise allows
 pub record Explained (d : Device) (k : ℕ) (m : List ℕ) : Type 0 where
-  pub answer : Why
+  pub answer : Why No
   pub explains : Explains d k m answer
 
 abbrev pub EveryQuestionAnswered : Type 0
@@ -134,14 +134,14 @@ answers_to s (question k m ∷ acts) = why s k m ∷ answers_to s acts
 -- with the questions struck out it is a life: the same device, replies and record
 abbrev pub AskingChangesNothing : Type 0
 AskingChangesNothing =
-    (acts : List Act) (d : Device) (rs : List Reply) (line : List ℕ) (ws : List Why) → LivedAsking acts d rs line ws
+    (acts : List Act) (d : Device) (rs : List Reply) (line : List ℕ) (ws : List (Why No)) → LivedAsking acts d rs line ws
     → Lived (events_of acts) d rs line × (map reason_of ws ≡ answers_to power_up acts)
 
 pub record AskingLifeOf (acts : List Act) : Type 0 where
   pub device : Device
   pub replies : List Reply
   pub line : List ℕ
-  pub answers : List Why
+  pub answers : List (Why No)
   pub lived : LivedAsking acts device replies line answers
 
 -- questions may come anywhere among events that fit

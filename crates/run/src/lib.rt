@@ -1,8 +1,10 @@
 // A run (01, 'On the bench table'): standard input to standard output, line by line, in bounded memory.
 #![tactic(auto)]
 
-ghost use Rattle.std.specs.Prelude.{◌≡◌, ◌+◌, ◌≤◌, ◌<◌};
-ghost use Rattle.fusb302.specs.View.{Asks};
+ghost use Rattle.std.specs.Prelude.{◌≡◌, true, Some, ◌+◌, ◌≤◌, ◌<◌, take};
+ghost use Rattle.fusb302.specs.View.{view, Asks};
+ghost use Rattle.machine.specs.Step.{step};
+ghost use Rattle.turn.specs.Turn.{meant_by};
 
 use fusb302::Device;
 use line::write::FRAME_ROOM;
@@ -32,6 +34,8 @@ struct Bench {
 impl Bench {
     // The next line without its LF, by its length; 256 octets of one that is longer than 255. At the end of the input it is what is left.
     // Before more is read, what is printed is handed over to be written, so that whoever waits for an answer has it (only run: see `fill`).
+    // Inlined at both calls: as a function of its own it takes a fifth of the instructions of a short line.
+    #[inline(always)]
     fn next_line(&mut self) -> usize
         ensures line { result ≤ LINE_ROOM }
         ensures number { self.new.number ≡ self.old.number }
@@ -76,13 +80,14 @@ impl Bench {
         self.console.stepped(used, true);
     }
 
-    // One line of the setup, or of the events: a bool, as `meant_by` takes it. `Asks` is a clause, as in fusb302 (device.rt).
+    // One line of the setup, or of the events: a bool, as `meant_by` takes it. Where the run goes on, the line that is held was in form, and the device went its step; that it is the next one of the input is only run. `Asks` is a clause, as in fusb302 (device.rt).
     #[tactic(auto, using(turn::proofs::Turning::tell_asks, turn::proofs::Turning::tell_within))]
     fn one<T: Tells>(&mut self, tells: &T, setup: bool, device: Device) -> Device
         requires asks { Asks device }
         requires number { self.old.number < 30000000 }
         ensures asks { Asks result }
         ensures number { self.new.number ≡ self.old.number + 1 }
+        ensures takes { self.new.console.stream.on ≡ true → (n : _) × (e : _) × (meant_by setup (take n self.new.line) ≡ Some e) × (view result ≡ (step (view device) e).state) }
     {
         let length = self.next_line();
         self.number += 1;

@@ -6,3 +6,4 @@ pub mod Lines
 pub mod Voltages
 pub mod Texts
 pub mod Outcomes
+pub mod Numbered

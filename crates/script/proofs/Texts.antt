@@ -5,7 +5,8 @@ use mathlib.Core.Bool.{Bool}
 use mathlib.Core.List.{List, [], ◌∷◌}
 use mathlib.Core.Option.{Option, none, some}
 use Prim.Native.Nat.{ℕ, ◌+◌, ◌≤◌}
-use Rattle.std.specs.Prelude.{Some, None, Ok, Err}
+use Rattle.std.specs.Prelude.{Some, None, Result, Ok, Err}
+use Rattle.std.specs.Prelude as std
 use native.Mathlib.Omega.{arith}
 use lib.ListN.{length}
 use Rattle.text.specs.Ascii.{text}
@@ -18,13 +19,13 @@ use Rattle.text.proofs.Pages.{then_on, roomed_on}
 use Rattle.line.specs.Write.{frame_room}
 use Rattle.machine.specs.Events as events
 use Rattle.machine.specs.Why.{Reason, refused, kind_off, crc_wrong, no_room, is_good_crc, auto_crc_off, auto_pre_on, driver_off}
-use Rattle.fusb302.specs.declared.refusals.No.{No}
 use Rattle.fusb302.specs.declared.why.Why.{Why}
 use Rattle.fusb302.specs.declared.why.Why.TheVariants.{Refused}
-use Rattle.fusb302.specs.Refusals.{number_of}
-use Rattle.fusb302.specs.Serves.{Reply, replied}
-use Rattle.fusb302.specs.Why.{reason_of}
-use Rattle.script.specs.Print.{reply_text, level_of, outcome_text, bad_line_text, reason_text, why_text, bench_line_room}
+use Rattle.script.specs.Print.{answered, named, reply_text, level_of, outcome_text, bad_line_text, reason_text, why_text, bench_line_room}
+
+-- a reply with its refusal by number
+abbrev Numbered : Type 0
+Numbered = Result (std.Option ℕ) ℕ
 
 -- a text where there is room for so many
 abbrev Asks_for : ℕ → Page → List ℕ → Page → Type 0
@@ -36,17 +37,17 @@ Room need p = p.at + need ≤ length p.octets.now
 
 -- ---- a reply, with room for any
 
-pub is_done : {p q : Page} (r : Reply) → Room 5 p → r ≡ Ok None → Asks_for 2 p (text "ok") q → PutsOn p (reply_text (replied r)) q
+pub is_done : {p q : Page} (r : Numbered) → Room 5 p → r ≡ Ok None → Asks_for 2 p (text "ok") q → PutsOn p (reply_text (answered r)) q
 unfolding reply_text
 is_done r room e x = rw e (roomed_on 2 (omega arith) x)
 
-pub is_value : {p m q : Page} (r : Reply) (v : ℕ) → Room 5 p → r ≡ Ok (Some v) → Asks_for 1 p (text "=") m → Asks_for 2 m (hex_of v) q → PutsOn p (reply_text (replied r)) q
+pub is_value : {p m q : Page} (r : Numbered) (v : ℕ) → Room 5 p → r ≡ Ok (Some v) → Asks_for 1 p (text "=") m → Asks_for 2 m (hex_of v) q → PutsOn p (reply_text (answered r)) q
 unfolding reply_text
 is_value r v room e x y =
     let sign = roomed_on 1 (omega arith) x in
     rw e (then_on sign (roomed_on 2 (omega (arith, sign.puts.next, same sign.puts)) y))
 
-pub is_no : {p m q : Page} {i : ℕ} (r : Reply) (n : No) → Room 5 p → r ≡ Err n → i ≡ number_of n → Asks_for 2 p (text "no") m → Asks_for 3 m (decimal_of 3 i) q → PutsOn p (reply_text (replied r)) q
+pub is_no : {p m q : Page} {i : ℕ} (r : Numbered) (n : ℕ) → Room 5 p → r ≡ Err n → i ≡ n → Asks_for 2 p (text "no") m → Asks_for 3 m (decimal_of 3 i) q → PutsOn p (reply_text (answered r)) q
 unfolding reply_text
 is_no r n room e is x y =
     let word = roomed_on 2 (omega arith) x in
@@ -60,7 +61,7 @@ short (events.no n) = let h = few 3 n in omega arith
 
 -- ---- a reason, with room for any
 
-pub is_refused : {p m q : Page} {i : ℕ} (w : Why) (n : No) → Room 15 p → w ≡ Refused n → i ≡ number_of n → Asks_for 8 p (text "refused ") m → Asks_for 3 m (decimal_of 3 i) q → PutsOn p (reason_text (reason_of w)) q
+pub is_refused : {p m q : Page} {i : ℕ} (w : Why ℕ) (n : ℕ) → Room 15 p → w ≡ Refused n → i ≡ n → Asks_for 8 p (text "refused ") m → Asks_for 3 m (decimal_of 3 i) q → PutsOn p (reason_text (named w)) q
 unfolding reason_text
 is_refused w n room e is x y =
     let word = roomed_on 8 (omega arith) x in
@@ -78,8 +79,8 @@ reason_short (some auto_crc_off) = omega arith
 reason_short (some auto_pre_on) = omega arith
 reason_short (some driver_off) = omega arith
 
-pub is_word : {p q : Page} (w v : Why) → Room 15 p → w ≡ v → Asks_for (length (reason_text (reason_of v))) p (reason_text (reason_of v)) q → PutsOn p (reason_text (reason_of w)) q
-is_word w v room e x = rw e (roomed_on (length (reason_text (reason_of v))) (omega (arith, reason_short (reason_of v))) x)
+pub is_word : {p q : Page} (w v : Why ℕ) → Room 15 p → w ≡ v → Asks_for (length (reason_text (named v))) p (reason_text (named v)) q → PutsOn p (reason_text (named w)) q
+is_word w v room e x = rw e (roomed_on (length (reason_text (named v))) (omega (arith, reason_short (named v))) x)
 
 -- ---- the lines, with room for any
 

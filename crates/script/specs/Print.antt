@@ -1,12 +1,15 @@
 -- What an outcome prints: reply, INT_N level after it, symbols or `-`; what a line out of form prints; and what `why` prints of a packet.
 -- Assumes nothing.
-use Rattle.std.specs.Prelude.{Bool, true, false, ◌&&◌, List, [], ◌∷◌, ◌++◌, ℕ, leb, length}
+use Rattle.std.specs.Prelude.{◌≡◌, Bool, true, false, ◌&&◌, List, [], ◌∷◌, ◌++◌, ℕ, leb, length, Result, Ok, Err, Some, None}
+use Rattle.std.specs.Prelude as std
 use Rattle.std.proofs.Math.Option.{Option, none, some}
 use Rattle.text.specs.Ascii.{text}
 use Rattle.text.specs.Hex.{hex_of}
 use Rattle.text.specs.Put.{decimal_of, octets_text, has_room, Prints}
 use Rattle.line.specs.Write.{frame_room}
 use Rattle.machine.specs.Events.{Reply, done, value, no}
+use Rattle.fusb302.specs.declared.why.Why.{Why}
+use Rattle.fusb302.specs.declared.why.Why.TheVariants.{Refused, KindOff, CrcWrong, NoRoom, IsGoodCrc, AutoCrcOff, AutoPreOn, DriverOff, Leaves}
 use Rattle.machine.specs.Why.{Reason, refused, kind_off, crc_wrong, no_room, is_good_crc, auto_crc_off, auto_pre_on, driver_off}
 
 -- `ok`, `=vv`, `noN`
@@ -46,6 +49,40 @@ why_text n o = decimal_of 10 n ++ ((0x20 ∷ []) ++ (reason_text o ++ (0x0A ∷ 
 -- room for any line: `no255`, a space and the level, 73 symbols, LF
 abbrev pub bench_line_room : ℕ
 bench_line_room = 227
+
+-- ---- a reply and a reason by the number of a refusal
+
+abbrev pub answered : Result (std.Option ℕ) ℕ → Reply
+answered (Ok None) = done
+answered (Ok (Some v)) = value v
+answered (Err n) = no n
+
+abbrev pub named : Why ℕ → Option Reason
+named (Refused n) = some (refused n)
+named KindOff = some kind_off
+named CrcWrong = some crc_wrong
+named NoRoom = some no_room
+named IsGoodCrc = some is_good_crc
+named AutoCrcOff = some auto_crc_off
+named AutoPreOn = some auto_pre_on
+named DriverOff = some driver_off
+named Leaves = none
+
+-- the same of any type of refusals, by a number that one converts to
+abbrev pub Answers : {N : Type 0} → (N → ℕ → Type 0) → Result (std.Option ℕ) N → Reply → Type 0
+Answers converts (Ok r) m = m ≡ answered (Ok r)
+Answers converts (Err n) m = (k : ℕ) × converts n k × (m ≡ no k)
+
+abbrev pub Names : {N : Type 0} → (N → ℕ → Type 0) → Why N → Option Reason → Type 0
+Names converts (Refused n) o = (k : ℕ) × converts n k × (o ≡ some (refused k))
+Names converts KindOff o = o ≡ some kind_off
+Names converts CrcWrong o = o ≡ some crc_wrong
+Names converts NoRoom o = o ≡ some no_room
+Names converts IsGoodCrc o = o ≡ some is_good_crc
+Names converts AutoCrcOff o = o ≡ some auto_crc_off
+Names converts AutoPreOn o = o ≡ some auto_pre_on
+Names converts DriverOff o = o ≡ some driver_off
+Names converts Leaves o = o ≡ none
 
 -- ---- promises
 

@@ -5,9 +5,7 @@
 ghost use Rattle.std.specs.Prelude.{◌≡◌, ◌+◌, ◌≤◌, length};
 ghost use Rattle.text.specs.Page.{PutsOn, SameOctets};
 ghost use Rattle.line.specs.Write.{frame_room};
-ghost use Rattle.fusb302.specs.Serves.{replied};
-ghost use Rattle.fusb302.specs.Why.{reason_of};
-ghost use Rattle.script.specs.Print.{reply_text, level_of, outcome_text, bad_line_text, reason_text, why_text, bench_line_room, PrintsOutcome, PrintsBad, PrintsWhy};
+ghost use Rattle.script.specs.Print.{reply_text, level_of, outcome_text, bad_line_text, reason_text, why_text, bench_line_room, answered, named, Answers, Names, PrintsOutcome, PrintsBad, PrintsWhy};
 
 use fusb302::{Reply, Why};
 use line::write::FRAME_ROOM;
@@ -19,10 +17,37 @@ pub const BENCH_LINE_ROOM: usize = 227;
 // As many digits as any line number has. One is widened by `as`: `usize` is no `From` of `u32`.
 const LINE_DIGITS: usize = 10;
 
+// A reply with its refusal by number: the number is the text, and any is printed.
+fn answered<N: Into<u8>>(reply: Reply<N>) -> Reply<u8>
+    ensures { Answers N.converts reply (answered result) }
+{
+    match reply {
+        Ok(octet) => Ok(octet),
+        Err(no) => Err(no.into()),
+    }
+}
+
+// An answer of `why` with its refusal by number.
+fn named<N: Into<u8>>(why: Why<N>) -> Why<u8>
+    ensures { Names N.converts why (named result) }
+{
+    match why {
+        Why::Refused(no) => Why::Refused(no.into()),
+        Why::KindOff => Why::KindOff,
+        Why::CrcWrong => Why::CrcWrong,
+        Why::NoRoom => Why::NoRoom,
+        Why::IsGoodCrc => Why::IsGoodCrc,
+        Why::AutoCrcOff => Why::AutoCrcOff,
+        Why::AutoPreOn => Why::AutoPreOn,
+        Why::DriverOff => Why::DriverOff,
+        Why::Leaves => Why::Leaves,
+    }
+}
+
 // `ok`, `=vv`, `noN`.
-fn put_reply(reply: Reply, page: &mut Page)
+fn put_reply(reply: Reply<u8>, page: &mut Page)
     requires { page.old.at + 5 ≤ length page.old.octets.now }
-    ensures { PutsOn page.old (reply_text (replied reply)) page.new }
+    ensures { PutsOn page.old (reply_text (answered reply)) page.new }
 {
     match reply {
         Ok(None) => page.put_text(b"ok"),
@@ -30,9 +55,9 @@ fn put_reply(reply: Reply, page: &mut Page)
             page.put(b'=');
             page.put_octet(v);
         }
-        Err(no) => {
+        Err(number) => {
             page.put_text(b"no");
-            page.put_decimal(usize::from(u8::from(no)), 3);
+            page.put_decimal(usize::from(number), 3);
         }
     }
 }
@@ -43,9 +68,9 @@ fn level(high: bool) -> u8
     if high { b'1' } else { b'0' }
 }
 
-fn put_outcome(reply: Reply, high: bool, symbols: &[u8], page: &mut Page)
+fn put_outcome(reply: Reply<u8>, high: bool, symbols: &[u8], page: &mut Page)
     requires { (length symbols.now ≤ frame_room) × (page.old.at + bench_line_room ≤ length page.old.octets.now) }
-    ensures { PutsOn page.old (outcome_text (replied reply) high symbols.now) page.new }
+    ensures { PutsOn page.old (outcome_text (answered reply) high symbols.now) page.new }
 {
     put_reply(reply, page);
     page.put(b' ');
@@ -64,14 +89,14 @@ fn put_bad(line: u32, page: &mut Page)
 }
 
 #[tactic(auto, using(crate::proofs::Texts::is_refused, crate::proofs::Texts::is_word), unfolding(crate::specs::Print::reason_text))]
-fn put_reason(why: Why, page: &mut Page)
+fn put_reason(why: Why<u8>, page: &mut Page)
     requires { page.old.at + 15 ≤ length page.old.octets.now }
-    ensures { PutsOn page.old (reason_text (reason_of why)) page.new }
+    ensures { PutsOn page.old (reason_text (named why)) page.new }
 {
     match why {
-        Why::Refused(no) => {
+        Why::Refused(number) => {
             page.put_text(b"refused ");
-            page.put_decimal(usize::from(u8::from(no)), 3);
+            page.put_decimal(usize::from(number), 3);
         }
         Why::KindOff => page.put_text(b"kind off"),
         Why::CrcWrong => page.put_text(b"CRC wrong"),
@@ -84,9 +109,9 @@ fn put_reason(why: Why, page: &mut Page)
     }
 }
 
-fn put_why(number: u32, why: Why, page: &mut Page)
+fn put_why(number: u32, why: Why<u8>, page: &mut Page)
     requires { page.old.at + bench_line_room ≤ length page.old.octets.now }
-    ensures { PutsOn page.old (why_text number (reason_of why)) page.new }
+    ensures { PutsOn page.old (why_text number (named why)) page.new }
 {
     page.put_decimal(number as usize, LINE_DIGITS);
     page.put(b' ');
@@ -95,10 +120,12 @@ fn put_why(number: u32, why: Why, page: &mut Page)
 }
 
 // Prints what came of a write or an event; nothing without room, nor with more symbols than any event sends.
-pub fn print_outcome(reply: Reply, high: bool, symbols: &[u8], page: &mut Page)
+// Its refusal is of any type that converts to a number, `u8` itself among them, so that any number is printed.
+pub fn print_outcome<N: Into<u8>>(reply: Reply<N>, high: bool, symbols: &[u8], page: &mut Page)
     ensures same_octets { SameOctets page.old page.new }
-    ensures prints { PrintsOutcome (replied reply) high symbols.now page.old.octets.now page.old.at page.new.at page.new.octets.now }
+    ensures prints { (m : _) × Answers N.converts reply m × PrintsOutcome m high symbols.now page.old.octets.now page.old.at page.new.at page.new.octets.now }
 {
+    let reply = answered(reply);
     if symbols.len() <= FRAME_ROOM && page.has_room(BENCH_LINE_ROOM) {
         put_outcome(reply, high, symbols, page);
     }
@@ -115,10 +142,12 @@ pub fn print_bad(line: u32, page: &mut Page)
 }
 
 // Prints why the packet of a line gets no GoodCRC, or that one leaves; without room nothing.
-pub fn print_why(line: u32, why: Why, page: &mut Page)
+// Its refusal is as in `print_outcome`.
+pub fn print_why<N: Into<u8>>(line: u32, why: Why<N>, page: &mut Page)
     ensures same_octets { SameOctets page.old page.new }
-    ensures prints { PrintsWhy line (reason_of why) page.old.octets.now page.old.at page.new.at page.new.octets.now }
+    ensures prints { (o : _) × Names N.converts why o × PrintsWhy line o page.old.octets.now page.old.at page.new.at page.new.octets.now }
 {
+    let why = named(why);
     if page.has_room(BENCH_LINE_ROOM) {
         put_why(line, why, page);
     }

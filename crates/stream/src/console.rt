@@ -2,7 +2,7 @@
 //
 // Callers make the page of `out` and `stream.used`: a method that takes a closure proves, but each of the four closures would need clauses of its own.
 // `KeepsBuffers` is a clause: a relation of the console before and after, which no field says.
-ghost use Rattle.std.specs.Prelude.{◌≡◌, true, ◌+◌, ◌≤◌, slice_range};
+ghost use Rattle.std.specs.Prelude.{◌≡◌, true, ◌+◌, ◌≤◌, replicate, slice_range};
 ghost use Rattle.text.specs.Put.{has_room};
 ghost use Rattle.stream.specs.Ready.{buffer_room, octet_waits, Ready};
 ghost use Rattle.stream.specs.Promises.{BeginsFresh, WritesOut, MakesRoom, Fills, StepsTo};
@@ -25,7 +25,8 @@ impl Console {
     ghost use Rattle.stream.specs.Buffers.{KeepsBuffers};
 
     pub fn new(stdin: Stdin, stdout: Stdout) -> Console
-        ensures { BeginsFresh result.stream }
+        ensures begins { BeginsFresh result.stream }
+        ensures empty { (result.buf ≡ replicate buffer_room 0) × (result.out ≡ replicate buffer_room 0) }
     {
         Console {
             stdin,

@@ -5,6 +5,7 @@ use mathlib.Core.Bool.{true, false}
 use Rattle.fusb302.specs.View.{view}
 use Rattle.turn.specs.Turn.{outcomes, Turned, Lent, TakesLineTelling}
 use Rattle.turn.specs.Theorems.{OneTurn, OneTelling}
+use Rattle.turn.proofs.Turning.{taken_outcomes}
 
 pub one_telling : OneTelling
 unfolding TakesLineTelling
@@ -32,4 +33,5 @@ one_telling false t d e number before at r s a b p q =
     }
 
 pub one_turn : OneTurn
-one_turn fits d e number before at r s a b p q = one_telling fits outcomes d e number before at r s a b p q
+one_turn fits d e number before at r s a b p q =
+    one_telling fits outcomes d e number before at r s a b (taken_outcomes d e number before at r a fits p) (taken_outcomes d e number before at s b fits q)

@@ -1,7 +1,7 @@
 -- A parsed line is the event that its text means; the device serves it, and what it prints is the machine's.
 -- Assumes nothing.
 use mathlib.Core.Path.{◌≡◌, refl, sym, ap, ap₂, ◌∙◌, subst}
-use mathlib.Core.Bool.{Bool, true, false, not, cond, ◌&&◌}
+use mathlib.Core.Bool.{Bool, true, false, not, cond, true≢false, ◌&&◌}
 use mathlib.Core.List.{List, []}
 use mathlib.Core.Option as math
 use Prim.Native.Nat.{ℕ, ◌+◌, ◌≤◌}
@@ -24,6 +24,7 @@ use Rattle.machine.specs.Step.{step}
 use Rattle.machine.specs.Why.{Reason, why}
 use Rattle.fusb302.specs.declared.device.Device.{Device}
 use Rattle.fusb302.specs.declared.device.Outcome.{Outcome}
+use Rattle.fusb302.specs.declared.refusals.No.{No}
 use Rattle.fusb302.specs.declared.why.Why.{Why}
 use Rattle.fusb302.specs.View.{view, Asks}
 use Rattle.fusb302.specs.Serves.{replied, overlaid, Serves}
@@ -35,7 +36,7 @@ use Rattle.script.specs.Text.{fits, octet_at, are_octets, octets_in}
 use Rattle.script.specs.Parse.{count_of, write_event, timed, rest_part, number_part, heard, packet_of, millivolts_of, is_spaced, next_part, sensed, voltages_of, lettered_of, form_of, event_of, setup_of, line_of, Parses}
 use Rattle.script.specs.Print.{outcome_text, bad_line_text, why_text, bench_line_room, PrintsOutcome, PrintsBad}
 use Rattle.script.proofs.Texts.{short, reason_short}
-use Rattle.turn.specs.Turn.{Telling, outcomes, reasons, Turned, meant_by, left_by, sent_by, result_text, reason_text_of, text_of, told_text, TakesLineTelling, Lent, event_for, TellsReason, TellsOutcome, ActsTelling}
+use Rattle.turn.specs.Turn.{Telling, outcomes, reasons, Turned, meant_by, left_by, sent_by, result_text, reason_text_of, text_of, told_text, TakesLine, TakesLineTelling, Lent, event_for, TellsReason, TellsOutcome, ActsTelling}
 
 -- ---- a line's event is lent room for one frame
 
@@ -186,7 +187,7 @@ module _ (s : State) (line : Line) (os : List ℕ) (number : ℕ) where
   tells_nothing true {out} {at} h = rw (no_reason line h) (record { puts = nothing out at })
   tells_nothing false {out} {at} h = record { puts = nothing out at }
 
-  pub tells_why : (k n : ℕ) (w : Why) {b : Bool} {out out' : List ℕ} {at r : ℕ} → line ≡ Packet k n → reason_of w ≡ why s k (take n os)
+  pub tells_why : (k n : ℕ) (w : Why No) {b : Bool} {out out' : List ℕ} {at r : ℕ} → line ≡ Packet k n → reason_of w ≡ why s k (take n os)
       → Prints b out at (why_text number (reason_of w)) r out' → Prints b out at (reason_text_of s (Some (event_for line os)) number) r out'
   unfolding reason_text_of
   tells_why k n w e q p = rw (e, ← q) p
@@ -304,3 +305,33 @@ module _ (t : Telling) (d : Device) (e : Option Event) (number : ℕ) (before : 
   unfolding TakesLineTelling
   tell_within true h x = x.acts.fits
   tell_within false h x = rw x.0 h
+
+-- ---- what tells outcomes is the bench's
+
+module _ (d : Device) (e : Option Event) (number : ℕ) (before : Lent) (at : ℕ) (r : Turned) (after : Lent) where
+  pub outcomes_taken : (b : Bool) → TakesLineTelling b outcomes d e number before at r after → TakesLine b d e number before at r after
+  unfolding TakesLine TakesLineTelling
+  outcomes_taken true h = record { acts = h.acts; octets = h.octets }
+  outcomes_taken false h = h
+
+  pub taken_outcomes : (b : Bool) → TakesLine b d e number before at r after → TakesLineTelling b outcomes d e number before at r after
+  unfolding TakesLine TakesLineTelling
+  taken_outcomes true h = record { acts = h.acts; octets = h.octets }
+  taken_outcomes false h = h
+
+  pub turn_asks : (b : Bool) → Asks d → TakesLine b d e number before at r after → Asks r.device
+  turn_asks b asks h = tell_asks outcomes d e number before at r after b asks (taken_outcomes b h)
+
+  pub turn_within : (b : Bool) → at ≤ length before.out → TakesLine b d e number before at r after → r.at ≤ length before.out
+  turn_within b within h = tell_within outcomes d e number before at r after b within (taken_outcomes b h)
+
+-- ---- where there is room and the run goes on, the line is in form and the device goes its step
+
+pub steps_on : {b : Bool} (t : Telling) (d : Device) (o : Option Event) (number : ℕ) (before : Lent) (at : ℕ) (r : Turned) (after : Lent) (on : Bool)
+    → b ≡ true → TakesLineTelling b t d o number before at r after → (not r.ends && on) ≡ true
+    → (e : Event) × (o ≡ Some e) × (view r.device ≡ (step (view d) e).state)
+unfolding TakesLineTelling left_by
+steps_on {b = false} t d o number before at r after on roomy h goes = absurd (true≢false (sym roomy))
+steps_on {b = true} t d None number before at r after on roomy h goes =
+    absurd (true≢false (sym goes ∙ ap (λ (x : Bool). not x && on) h.acts.ends))
+steps_on {b = true} t d (Some e) number before at r after on roomy h goes = (e, refl, h.acts.state)

@@ -29,11 +29,11 @@ pub struct Given<'a> {
 pub trait Tells {
     ghost telling: { Telling };
 
-    // What is told before the event, since the device is asked as it stands.
-    fn tell_reason(&self, device: Device, given: Given, number: u32, page: &mut Page)
-        requires { Asks device }
+    // What is told before the event, since the device is asked as it stands; it is lent, since a copy of it is made only where it is asked.
+    fn tell_reason(&self, device: &Device, given: Given, number: u32, page: &mut Page)
+        requires { Asks device.now }
         ensures same_octets { SameOctets page.old page.new }
-        ensures tells { TellsReason telling (view device) (Some (event_for given.entry.line given.entry.octets.now)) number page.old.octets.now page.old.at page.new.at page.new.octets.now };
+        ensures tells { TellsReason telling (view device.now) (Some (event_for given.entry.line given.entry.octets.now)) number page.old.octets.now page.old.at page.new.at page.new.octets.now };
 
     // What is told after it. Reply, level and symbols go one by one: `TellsOutcome`.
     fn tell_outcome(&self, reply: Reply, high: bool, symbols: &[u8], page: &mut Page)
@@ -52,7 +52,7 @@ pub struct Reasons;
 impl Tells for Outcomes {
     ghost telling = { outcomes };
 
-    fn tell_reason(&self, _device: Device, _given: Given, _number: u32, _page: &mut Page) {}
+    fn tell_reason(&self, _device: &Device, _given: Given, _number: u32, _page: &mut Page) {}
 
     fn tell_outcome(&self, reply: Reply, high: bool, symbols: &[u8], page: &mut Page) {
         print_outcome(reply, high, symbols, page);
@@ -62,7 +62,7 @@ impl Tells for Outcomes {
 impl Tells for Reasons {
     ghost telling = { reasons };
 
-    fn tell_reason(&self, device: Device, given: Given, number: u32, page: &mut Page) {
+    fn tell_reason(&self, device: &Device, given: Given, number: u32, page: &mut Page) {
         if let Line::Packet { kind, count } = given.line {
             print_why(number, device.why(kind, &given.octets[..count]), page);
         }
@@ -119,7 +119,7 @@ fn act<T: Tells>(
     ensures same_octets { SameOctets page.old page.new }
     ensures acts { ActsTelling T.telling device (Some (event_for given.entry.line given.entry.octets.now)) number symbols.old page.old.octets.now page.old.at (record { device = result; ends = false; at = page.new.at }) symbols.new page.new.octets.now }
 {
-    tells.tell_reason(device, given, number, page);
+    tells.tell_reason(&device, given, number, page);
     let outcome = serve(device, given, symbols);
     let after = outcome.device;
     let sent = &symbols[..outcome.count];

@@ -16,6 +16,6 @@ fed_at l None at = refl
 pub stepped-requires : goal.stepped-requires
 stepped-requires c =
     let a = c.args.self.now in
-    let fed = fed_as a.listing c.feed-next.result c.feed-next.new.page.at in
-    let inside = feed_inside a.listing c.args.c a.window a.console.out a.console.stream.used fed _ _ (search rules) c.feed-next.ensures.feeds in
-    omega (arith, inside, fed_at a.listing c.feed-next.result c.feed-next.new.page.at)
+    let fed = fed_as c.args.listing c.feed-next.result c.feed-next.new.page.at in
+    let inside = feed_inside c.args.listing c.args.c a.window a.console.out a.console.stream.used fed _ _ (search rules) c.feed-next.ensures.feeds in
+    omega (arith, inside, fed_at c.args.listing c.feed-next.result c.feed-next.new.page.at)

@@ -11,4 +11,4 @@ pub returns-in-Ok-Some : goal.returns-in-Ok-Some
 returns-in-Ok-Some c = let e : c.args.reply ≡ Ok (Some c.in-Ok-Some.v) = c.in-Ok-Some.is ∙ ap (λ x. Ok x) (rw c.in-Ok-Some.is at c.in-Ok-Some.field-0-is) in is_value _ _ c.requires e c.put.ensures c.put_octet.ensures
 
 pub returns-in-Err : goal.returns-in-Err
-returns-in-Err c = is_no _ _ c.requires c.in-Err.is (c.from-in-Err.ensures ∙ c.from.ensures) c.put_text-in-Err.ensures c.put_decimal.ensures
+returns-in-Err c = is_no _ _ c.requires c.in-Err.is c.from.ensures c.put_text-in-Err.ensures c.put_decimal.ensures
