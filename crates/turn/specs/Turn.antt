@@ -103,10 +103,12 @@ TakesLineTelling false t d e number before at r after = (r ≡ record { device =
 abbrev pub Acts : Device → Option Event → ℕ → (lent out : List ℕ) → ℕ → Turned → (sent out' : List ℕ) → Type 0
 Acts d e number lent out at r sent out' = ActsTelling outcomes d e number lent out at r sent out'
 
+-- a line is taken
 pub record Turns (d : Device) (e : Option Event) (number : ℕ) (before : Lent) (at : ℕ) (r : Turned) (after : Lent) : Type 0 where
   pub acts : Acts d e number before.symbols before.out at r after.symbols after.out
   pub octets : after.octets ≡ overlaid (packet_octets e) before.octets
 
+-- or, where its text need not fit, all stays as it stood and the run ends
 unfoldable pub TakesLine : Bool → Device → Option Event → ℕ → Lent → ℕ → Turned → Lent → Type 0
 TakesLine true d e number before at r after = Turns d e number before at r after
 TakesLine false d e number before at r after = (r ≡ record { device = d; ends = true; at = at }) × (after ≡ before)
